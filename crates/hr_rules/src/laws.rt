@@ -1,0 +1,12 @@
+ghost use Rattle.hr_rules.specs.Lexing.{OneLexing, LexingsJoin};
+
+/// A text has one list of items at most, whatever lexemes, blanks and comments are, as long as
+/// these keep apart: a law about the definitions, which no call needs to run.
+pub fn one_lexing()
+    ensures { OneLexing }
+{}
+
+/// The items of a text and what is behind them, joined, are the text: a law as well.
+pub fn lexings_join()
+    ensures { LexingsJoin }
+{}

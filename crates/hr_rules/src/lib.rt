@@ -1,0 +1,9 @@
+//! Definitions that several layers share, with their laws: what it is for bytes to be lexed as
+//! items, and the text that items make.
+#![tactic(auto)]
+
+mod items;
+mod laws;
+
+pub use items::join;
+pub use laws::{lexings_join, one_lexing};
