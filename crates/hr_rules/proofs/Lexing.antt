@@ -4,7 +4,7 @@ use Rattle.std.proofs.Math.Seq.{take-append_seam}
 use Rattle.std.proofs.lemmas.List.{append_cancel_left}
 use Rattle.hr_base.specs.declared.lexeme.Class.{Class}
 use Rattle.hr_base.specs.declared.lexeme.Item.{Item}
-use Rattle.hr_rules.specs.Lexing.{Classes, Pieces, Barriers, Trivia, Fits, Lexes, AreApart, OneLexing, LexingsJoin}
+use Rattle.hr_rules.specs.Lexing.{Classes, Pieces, Barriers, Trivia, Fits, Lexes, AreApart, OneLexing, LexingsJoin, joined}
 use Rattle.hr_rules.specs.Lexing.Trivia.{none, more}
 use Rattle.hr_rules.specs.Lexing.Lexes.{ends, goes}
 
@@ -74,3 +74,8 @@ pub lexings_join_lem : LexingsJoin
 lexings_join_lem class_of is_piece bars bytes items tail (ends t is) = refl
 lexings_join_lem class_of is_piece bars bytes items tail (goes item rest others t is fits lexes) =
     ap (λ x. item.trivia ++ (item.lexeme.text ++ x)) (lexings_join_lem class_of is_piece bars rest others t lexes)
+
+-- one item more
+pub joined-push : (items : List Item) (item : Item) (tail : List ℕ) → joined (items ++ item ∷ []) tail ≡ joined items (item.trivia ++ (item.lexeme.text ++ tail))
+joined-push [] item tail = refl
+joined-push (first ∷ items) item tail = ap (λ x. first.trivia ++ (first.lexeme.text ++ x)) (joined-push items item tail)
