@@ -1,5 +1,6 @@
 -- The characters of a text: UTF-8 as the Unicode Standard defines it (section 3.9), by std's words.
-use Rattle.std.specs.Prelude.{ℕ, zero, suc, ◌+◌, ◌-◌, List, [], ◌∷◌, length, take, nat_lt, if◌then◌else◌, Option, None, Some, slice_get, chars}
+use Rattle.std.specs.Prelude.{◌≡◌, ℕ, zero, suc, ◌+◌, ◌-◌, ◌++◌, List, [], ◌∷◌, length, take, nat_lt, if◌then◌else◌, Option, None, Some, slice_get, chars}
+use Rattle.std.specs.Char.{IsScalar, encode_utf8}
 use Rattle.std.specs.Option.{option_map}
 use Rattle.std.specs.Str.{is_utf8, continuation_len}
 use Rattle.hr_scan.specs.declared.character.Character.{Character}
@@ -33,3 +34,9 @@ cells_past zero (first ∷ rest) = char_at (first ∷ rest) ∷ cells_past (cell
 -- the cells of a text, read from the left
 abbrev pub cells : List ℕ → List (Option Character)
 cells = cells_past 0
+
+-- the bytes are this character, in UTF-8, and then the rest
+pub record Begins (c : Character) (bytes rest : List ℕ) : Type 0 where
+  pub scalar : IsScalar c.code
+  pub len : c.len ≡ length (encode_utf8 c.code)
+  pub bytes_are : bytes ≡ encode_utf8 c.code ++ rest

@@ -1,6 +1,7 @@
 //! The one decoder: the character that begins at a place of a text.
-ghost use Rattle.std.specs.Prelude.{◌≡◌, drop};
-ghost use Rattle.hr_scan.specs.Characters.{announced_len, char_at, spelled};
+ghost use Rattle.std.specs.Prelude.{◌≡◌, ◌+◌, drop, IfSome, IfNone};
+ghost use Rattle.hr_scan.specs.Characters.{announced_len, char_at, spelled, Begins};
+ghost use Rattle.std.specs.Str.{StartsWithNoChar};
 
 use std::str;
 
@@ -13,7 +14,9 @@ pub struct Character {
 
 /// The character that begins at the place `from`, if one begins there.
 pub fn character_at(bytes: &[u8], from: usize) -> Option<Character>
-    ensures { result ≡ char_at (drop from bytes.now) }
+    ensures value { result ≡ char_at (drop from bytes.now) }
+    ensures some { IfSome result (λ c. Begins c (drop from bytes.now) (drop (from + c.len) bytes.now)) }
+    ensures none { IfNone result (StartsWithNoChar (drop from bytes.now)) }
 {
     let (_, rest) = bytes.split_at_checked(from)?;
     first_character(rest)
