@@ -1,0 +1,4 @@
+pub mod Caps
+pub mod Cells
+pub mod Characters
+pub mod LineStarts

@@ -1,0 +1,30 @@
+use Rattle.std.proofs.Common.{◌≡◌, take, length, Some, sym, ◌∙◌, ap, subst}
+use Rattle.std.specs.Str.{IsUtf8}
+use Rattle.std.proofs.lemmas.List.{take_min}
+use Rattle.hr_scan.specs.Characters.{spelled}
+use Rattle.hr_scan.proofs.Characters.{char_at-complete, spelled_nothing, not_spelled, spelled_first, refused, accepted}
+use Rattle.hr_scan.proofs.character.wide_character.Goals as goal
+
+-- The bytes are no UTF-8.
+pub returns-in_err-ok : goal.returns-in_err-ok
+returns-in_err-ok c =
+    let same = ap (λ k. take k c.args.bytes.now) c.min.ensures ∙ take_min c.args.len c.args.bytes.now in
+    let none = refused _ _ _ c.from_utf8.result c.from_utf8.ensures.cases (sym c.ok.ensures.value ∙ c.in_err-ok.was) in
+    c.from_residual.ensures ∙ sym (not_spelled c.args.len c.args.bytes.now (λ u. none (subst IsUtf8 (sym same) u)))
+
+-- There are no bytes.
+pub returns-in_err-code : goal.returns-in_err-code
+returns-in_err-code c =
+    let same = ap (λ k. take k c.args.bytes.now) c.min.ensures ∙ take_min c.args.len c.args.bytes.now in
+    let text = accepted _ _ c.from_utf8.result c.in_ok-ok.field-0 c.from_utf8.ensures.cases (sym c.ok.ensures.value ∙ c.in_ok-ok.was) in
+    let empty = sym (ap length (c.chars.ensures.rest ∙ text.0 ∙ same)) ∙ c.in_err-code.ensures.steps.0.0 in
+    c.from_residual-in_err-code.ensures ∙ sym (spelled_nothing c.args.len c.args.bytes.now empty)
+
+-- A character begins them.
+pub returns : goal.returns
+returns c =
+    let same = ap (λ k. take k c.args.bytes.now) c.min.ensures ∙ take_min c.args.len c.args.bytes.now in
+    let text = accepted _ _ c.from_utf8.result c.in_ok-ok.field-0 c.from_utf8.ensures.cases (sym c.ok.ensures.value ∙ c.in_ok-ok.was) in
+    let begins = sym (c.chars.ensures.rest ∙ text.0 ∙ same) ∙ c.in_ok-code.ensures.steps.0 in
+    let given = spelled_first c.args.len c.in_ok-code.code c.args.bytes.now _ (subst IsUtf8 same text.1) begins in
+    (λ i. Some (record { code = c.from.ensures i; len = length (same i) })) ∙ sym given
