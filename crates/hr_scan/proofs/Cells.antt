@@ -1,12 +1,16 @@
 -- The laws of cells: a text is read cell by cell.
 --     cells-cut      the first cell, and those behind it
 --     cell_len-pos, cell_len-fits, length-cells      how long cells are
-use Rattle.std.proofs.Common.{◌≡◌, ℕ, zero, suc, ◌+◌, ◌-◌, ◌<◌, ◌≤◌, List, [], ◌∷◌, ◌++◌, length, drop, Option, Some, None, refl, sym, ap, ◌∙◌, arith, length-drop, length-append}
-use Rattle.std.specs.Char.{encode_utf8}
+--     cells-append, cells-append_ascii      a text may be cut where a character may begin, and behind an ASCII byte
+--     cells-encode      the characters of a text in UTF-8
+use Rattle.std.proofs.Common.{◌≡◌, ℕ, zero, suc, ◌+◌, ◌-◌, ◌<◌, ◌≤◌, List, [], ◌∷◌, ◌++◌, length, drop, Option, Some, None, refl, sym, ap, ap₂, ◌∙◌, arith, length-drop, length-append, append_assoc, drop_at}
+use Rattle.std.proofs.lemmas.List.{drop-append-le}
+use Rattle.std.specs.Char.{IsScalar, encode_utf8}
+use Rattle.std.specs.Str.{IsCharBoundary}
 use Rattle.std.proofs.lemmas.Str.{length-encode, len_utf8_bounds}
 use Rattle.hr_scan.specs.declared.character.Character.{Character}
 use Rattle.hr_scan.specs.Characters.{char_at, cell_len, cells, cells_past, Begins}
-use Rattle.hr_scan.proofs.Characters.{char_at-sound}
+use Rattle.hr_scan.proofs.Characters.{char_at-sound, char_at-before, char_at-ascii, char_at-encode}
 
 cells_past-drop : (n : ℕ) (bytes : List ℕ) → cells_past n bytes ≡ cells (drop n bytes)
 cells_past-drop zero bytes = refl
@@ -51,3 +55,43 @@ length-cells_past zero (first ∷ rest) = let h = length-cells_past (cell_len (c
 
 pub length-cells : (bytes : List ℕ) → length (cells bytes) ≤ length bytes
 length-cells = length-cells_past 0
+
+cells_append_upto : (n : ℕ) (front back : List ℕ) → length front ≤ n → IsCharBoundary back 0 → cells (front ++ back) ≡ cells front ++ cells back
+cells_append_upto n [] back h boundary = refl
+cells_append_upto zero (first ∷ rest) back h boundary = absurd (omega arith)
+cells_append_upto (suc n) (first ∷ rest) back h boundary =
+    let front = first ∷ rest in
+    let same = char_at-before front back (omega arith) boundary in
+    let m = cell_len (char_at front) in
+    let fits : m ≤ length front = cell_len-fits front (omega arith) in
+    let short : length (drop m front) ≤ n = omega (arith, length-drop m front, cell_len-pos front) in
+    let left : drop (cell_len (char_at (front ++ back))) (front ++ back) ≡ drop m front ++ back = ap (λ o. drop (cell_len o) (front ++ back)) same ∙ drop-append-le m front back fits in
+    cells-cut (front ++ back) (omega arith)
+    ∙ ap₂ (λ (o : Option Character) (l : List (Option Character)). o ∷ l) same (ap cells left ∙ cells_append_upto n (drop m front) back short boundary)
+    ∙ ap (λ l. l ++ cells back) (sym (cells-cut front (omega arith)))
+
+pub cells-append : (front back : List ℕ) → IsCharBoundary back 0 → cells (front ++ back) ≡ cells front ++ cells back
+cells-append front back = cells_append_upto (length front) front back (omega arith)
+
+ascii_boundary : (b : ℕ) (rest : List ℕ) → b < 128 → IsCharBoundary (b ∷ rest) 0
+ascii_boundary b rest h = (omega arith, λ _ high. absurd (omega arith))
+
+pub cells-ascii : (b : ℕ) (rest : List ℕ) → b < 128 → cells (b ∷ rest) ≡ Some (record { code = b; len = 1 }) ∷ cells rest
+cells-ascii b rest h =
+    cells-cut (b ∷ rest) (omega arith) ∙ ap (λ o. o ∷ cells (drop (cell_len o) (b ∷ rest))) (char_at-ascii b rest h)
+
+pub cells-append_ascii : (front back : List ℕ) (b : ℕ) → b < 128 → cells ((front ++ b ∷ []) ++ back) ≡ cells (front ++ b ∷ []) ++ cells back
+cells-append_ascii front back b h =
+    ap cells (append_assoc front (b ∷ []) back)
+    ∙ cells-append front (b ∷ back) (ascii_boundary b back h)
+    ∙ ap (λ l. cells front ++ l) (cells-ascii b back h)
+    ∙ sym (append_assoc (cells front) (Some (record { code = b; len = 1 }) ∷ []) (cells back))
+    ∙ ap (λ l. l ++ cells back) (ap (λ l. cells front ++ l) (sym (cells-ascii b [] h)) ∙ sym (cells-append front (b ∷ []) (ascii_boundary b [] h)))
+
+-- the first character of a text is its first cell
+pub cells-encode : (c : ℕ) (rest : List ℕ) → IsScalar c → cells (encode_utf8 c ++ rest) ≡ Some (record { code = c; len = length (encode_utf8 c) }) ∷ cells rest
+cells-encode c rest s =
+    let some : 0 < length (encode_utf8 c ++ rest) = omega (arith, length-append (encode_utf8 c) rest, length-encode c, (len_utf8_bounds c).0) in
+    cells-cut (encode_utf8 c ++ rest) some
+    ∙ ap (λ o. o ∷ cells (drop (cell_len o) (encode_utf8 c ++ rest))) (char_at-encode c rest s)
+    ∙ ap (λ l. Some (record { code = c; len = length (encode_utf8 c) }) ∷ cells l) (drop_at (encode_utf8 c) rest (length (encode_utf8 c)) refl)

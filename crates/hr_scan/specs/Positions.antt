@@ -11,8 +11,9 @@ line_at bytes place = count_by (λ start. nat_le start place) (starts_of_lines b
 abbrev pub start_at : List ℕ → ℕ → ℕ
 start_at bytes place = slice_index (starts_of_lines bytes) (line_at bytes place - 1)
 
--- the line of the place, and the place's column in that line
+-- the place's column in that line
+abbrev pub column_in : List ℕ → ℕ → ℕ
+column_in bytes place = column_at (drop (start_at bytes place) bytes) (place - start_at bytes place)
+
 abbrev pub pos_at : List ℕ → ℕ → ℕ × ℕ
-pos_at bytes place =
-    let start = start_at bytes place in
-    (line_at bytes place, column_at (drop start bytes) (place - start))
+pos_at bytes place = (line_at bytes place, column_in bytes place)
