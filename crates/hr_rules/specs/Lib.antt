@@ -1,1 +1,10 @@
+pub mod Comments
+pub mod Lexemes
 pub mod Lexing
+pub mod Letters
+pub mod Names
+pub mod Numbers
+pub mod Operators
+pub mod Qualified
+pub mod Quotes
+pub mod Runs
