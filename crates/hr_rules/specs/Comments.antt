@@ -3,7 +3,7 @@ use Rattle.std.specs.Prelude.{ℕ, zero, suc, Bool, true, false, not, ◌&&◌, 
 use Rattle.std.specs.Option.{option_map}
 use Rattle.hr_rules.specs.Letters.{is_newline, is_symbol}
 use Rattle.hr_rules.specs.Operators.{is_dash}
-use Rattle.hr_rules.specs.Runs.{is_run}
+use Rattle.hr_rules.specs.Runs.{is_run, begins_with}
 
 -- behind two dashes: more dashes, and then a symbol, which makes an operator of them
 abbrev pub goes_on : List ℕ → Bool
@@ -21,10 +21,6 @@ is_in_line c = not (is_newline c)
 -- a line comment: it reaches to the next newline or the end
 abbrev pub is_line_comment : List ℕ → List ℕ → Bool
 is_line_comment text after = begins_line_comment text && is_run is_in_line text after
-
-abbrev pub begins_with : ℕ → List ℕ → Bool
-begins_with d [] = false
-begins_with d (c ∷ rest) = c == d
 
 -- `{-` and `-}` begin a text
 abbrev pub opens : ℕ → List ℕ → Bool

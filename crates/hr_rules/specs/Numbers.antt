@@ -3,6 +3,7 @@ use Rattle.std.specs.Prelude.{ℕ, ◌+◌, ◌*◌, Bool, true, false, not, ◌
 use Rattle.std.specs.List.{list_all, prefix_len}
 use Rattle.std.specs.Char.{digit_value, is_digit}
 use Rattle.hr_base.specs.declared.lexeme.Class.{Class}
+use Rattle.hr_rules.specs.Runs.{begins}
 
 abbrev pub greatest_integer : ℕ
 greatest_integer = 9223372036854775807
@@ -73,11 +74,7 @@ integer_class (Some n) = if nat_le n greatest_integer then Some Class.Integer el
 abbrev pub number_class : ℕ → List ℕ → Option Class
 number_class c rest = if ends_float rest then Some Class.Float else integer_class (integer_value c rest)
 
--- whether digits, or an exponent, begin a text
-abbrev pub begins : (ℕ → Bool) → List ℕ → Bool
-begins p [] = false
-begins p (c ∷ rest) = p c
-
+-- whether an exponent begins behind its letter
 abbrev pub begins_exponent : List ℕ → Bool
 begins_exponent [] = false
 begins_exponent (c ∷ rest) = if c == 43 || c == 45 then begins is_decimal rest else is_decimal c

@@ -6,7 +6,7 @@ use lib.Chars.{codes}
 use Rattle.hr_base.specs.declared.lexeme.Class.{Class}
 use Rattle.hr_rules.specs.Letters.{is_symbol}
 use Rattle.hr_rules.specs.Names.{is_one_of}
-use Rattle.hr_rules.specs.Runs.{is_run}
+use Rattle.hr_rules.specs.Runs.{is_run, begins_with}
 
 abbrev pub reserved_operators : List (List ℕ)
 reserved_operators =
@@ -25,13 +25,13 @@ is_dashes [] = false
 is_dashes (_ ∷ []) = false
 is_dashes (a ∷ b ∷ rest) = is_dash a && list_all is_dash (b ∷ rest)
 
--- of a run that begins with this symbol: one that begins with a colon is a constructor
-abbrev pub run_class : ℕ → List ℕ → Class
-run_class c rest =
-    if is_reserved_operator (c ∷ rest) then Class.ReservedOp
-    else (if c == 58 then Class.ConSym else Class.VarSym)
+-- of a run of symbols: one that begins with a colon is a constructor
+abbrev pub run_class : List ℕ → Class
+run_class run =
+    if is_reserved_operator run then Class.ReservedOp
+    else (if begins_with 58 run then Class.ConSym else Class.VarSym)
 
 -- a varsym, consym or reserved operator: a symbol, and then symbols
 abbrev pub symbol_class : ℕ → List ℕ → List ℕ → Option Class
 symbol_class c rest after =
-    if is_run is_symbol rest after && not (is_dashes (c ∷ rest)) then Some (run_class c rest) else None
+    if is_run is_symbol rest after && not (is_dashes (c ∷ rest)) then Some (run_class (c ∷ rest)) else None

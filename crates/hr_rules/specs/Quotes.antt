@@ -3,11 +3,12 @@
 use Rattle.std.specs.Prelude.{ℕ, zero, suc, ◌+◌, ◌-◌, Bool, true, false, not, ◌&&◌, ◌||◌, ◌==◌, nat_le, nat_lt, nat_eq, if◌then◌else◌, List, [], ◌∷◌, Option, Some, None, take, drop, length}
 use Rattle.std.specs.List.{prefix_len, starts_with}
 use Rattle.std.specs.Option.{option_map}
-use Rattle.std.specs.Char.{is_control, is_ascii_uppercase}
+use Rattle.std.specs.Char.{is_control, is_ascii_uppercase, is_digit}
 use lib.Chars.{codes}
 use Rattle.hr_base.specs.declared.lexeme.Class.{Class}
 use Rattle.hr_rules.specs.Letters.{among, is_blank}
-use Rattle.hr_rules.specs.Numbers.{value_of, is_decimal, is_octal, is_hexadecimal}
+use Rattle.hr_rules.specs.Runs.{begins_with}
+use Rattle.hr_rules.specs.Numbers.{value_of, is_decimal}
 
 abbrev pub backslash : ℕ
 backslash = 92
@@ -49,9 +50,9 @@ abbrev pub is_code : ℕ → Bool
 is_code n = nat_lt n 0xD800 || (nat_lt 0xDFFF n && nat_le n 0x10FFFF)
 
 -- the length of the longest run of digits that the text begins with, if they are the code of a character
-abbrev pub code_len : ℕ → (ℕ → Bool) → List ℕ → Option ℕ
-code_len base p text =
-    let n = prefix_len p text in
+abbrev pub code_len : ℕ → List ℕ → Option ℕ
+code_len base text =
+    let n = prefix_len (λ c. is_digit c base) text in
     if nat_lt 0 n && is_code (value_of base (take n text)) then Some n else None
 
 -- the length of a control's escape, behind its `^`
@@ -64,9 +65,9 @@ unfoldable pub escape_len : List ℕ → Option ℕ
 escape_len [] = None
 escape_len (c ∷ rest) =
     if among letter_escapes c then Some 1
-    else (if is_decimal c then code_len 10 is_decimal (c ∷ rest)
-    else (if c == 111 then option_map (λ n. n + 1) (code_len 8 is_octal rest)
-    else (if c == 120 then option_map (λ n. n + 1) (code_len 16 is_hexadecimal rest)
+    else (if is_decimal c then code_len 10 (c ∷ rest)
+    else (if c == 111 then option_map (λ n. n + 1) (code_len 8 rest)
+    else (if c == 120 then option_map (λ n. n + 1) (code_len 16 rest)
     else (if c == 94 then control_len rest else named_len ascii_names (c ∷ rest)))))
 
 -- the length of a gap, behind its backslash: blanks, one at least, and a backslash
@@ -82,10 +83,9 @@ string_escape_len (c ∷ rest) =
     if c == 38 then Some 1
     else (if is_blank c then gap_len (c ∷ rest) else escape_len (c ∷ rest))
 
--- whether a quote is the first character
+-- whether the closing quote begins a text
 abbrev pub is_closed : List ℕ → Bool
-is_closed [] = false
-is_closed (c ∷ rest) = c == quote
+is_closed text = begins_with quote text
 
 -- the same behind a backslash, where an escape of this length follows
 abbrev pub closed_behind : List ℕ → Option ℕ → Option ℕ

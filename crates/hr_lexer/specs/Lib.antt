@@ -1,0 +1,5 @@
+pub mod LexemeReader
+pub mod NameReader
+pub mod NumberReader
+pub mod QuoteReader
+pub mod TriviaReader

@@ -1,0 +1,98 @@
+//! Blanks and comments.
+ghost use Rattle.std.specs.Prelude.{◌≡◌, false};
+ghost use Rattle.std.specs.List.{prefix_len};
+ghost use Rattle.hr_rules.specs.Comments.{begins_line_comment, closed_len, goes_on, is_in_line};
+ghost use Rattle.hr_lexer.specs.TriviaReader.{line_comment_len, nested_comment_len, piece_len, trivia_len};
+
+use hr_rules::{Kind, is_newline, is_symbol, kind_of};
+
+/// How many characters of blanks and comments the text begins with.
+pub fn trivia_len(text: &[char]) -> usize
+    ensures { result ≡ trivia_len text.now }
+{
+    let mut rest = text;
+    while let Some(len) = piece_len(rest) {
+        let (_, tail) = rest.split_at(len);
+        rest = tail;
+    }
+    text.len() - rest.len()
+}
+
+/// The length of one blank or one comment.
+fn piece_len(text: &[char]) -> Option<usize>
+    ensures { result ≡ piece_len text.now }
+{
+    let first = *text.first()?;
+    match kind_of(first) {
+        Kind::Blank => Some(1),
+        Kind::Newline => Some(1),
+        Kind::Symbol => line_comment_len(text),
+        Kind::Special => nested_comment_len(text),
+        _ => None,
+    }
+}
+
+/// The length of a line comment.
+fn line_comment_len(text: &[char]) -> Option<usize>
+    ensures { result ≡ line_comment_len text.now }
+{
+    if begins_line_comment(text) {
+        Some(text.iter().take_while(|c| !is_newline(**c)).count())
+    } else {
+        None
+    }
+}
+
+fn begins_line_comment(text: &[char]) -> bool
+    ensures { result ≡ begins_line_comment text.now }
+{
+    match text {
+        ['-', '-', rest @ ..] => !goes_on(rest),
+        _ => false,
+    }
+}
+
+/// Whether a symbol behind more dashes makes an operator of them.
+fn goes_on(text: &[char]) -> bool
+    ensures { result ≡ goes_on text.now }
+{
+    let dashes = text.iter().take_while(|c| **c == '-').count();
+    let (_, rest) = text.split_at(dashes);
+    match rest {
+        [c, ..] => is_symbol(*c),
+        [] => false,
+    }
+}
+
+/// The length of a nested comment.
+fn nested_comment_len(text: &[char]) -> Option<usize>
+    ensures { result ≡ nested_comment_len text.now }
+{
+    match text {
+        ['{', '-', rest @ ..] => Some(closed_len(rest)? + 2),
+        _ => None,
+    }
+}
+
+/// The length up to the end of the first `-}` that has no partner.
+fn closed_len(text: &[char]) -> Option<usize>
+    ensures { result ≡ closed_len false 0 text.now }
+{
+    let mut depth: usize = 0;
+    let mut rest = text;
+    loop {
+        match rest {
+            [] => return None,
+            ['{', '-', tail @ ..] => {
+                depth += 1;
+                rest = tail;
+            }
+            ['-', '}', tail @ ..] if depth == 0 => return Some(text.len() - tail.len()),
+            ['-', '}', tail @ ..] => {
+                depth -= 1;
+                rest = tail;
+            }
+            [_, tail @ ..] => rest = tail,
+        }
+    }
+}

@@ -1,0 +1,139 @@
+//! The lexer's one call.
+ghost use Rattle.std.specs.Prelude.{◌≡◌};
+ghost use Rattle.hr_lexer.specs.LexemeReader.{lexeme_at, special_at};
+
+use crate::LexError;
+use crate::comments::trivia_len;
+use crate::names::{conid_at, symbols_at, word_at};
+use crate::numbers::number_at;
+use crate::quotes::{char_at_quote, string_at_quote};
+use crate::source::{Source, split};
+use crate::taken::Taken;
+use hr_base::{Class, Item, Items, Lexeme, Seq, Text};
+use hr_rules::{Kind, kind_of};
+use std::alloc::{AllocError, Global};
+use std::str;
+
+const LONGEST_TEXT: usize = 1_048_576;
+
+/// The items of a text.
+pub fn lex(alloc: Global, bytes: &[u8]) -> Result<Items, LexError> {
+    if bytes.len() > LONGEST_TEXT {
+        return Err(LexError::TooLong);
+    }
+    let text = match str::from_utf8(bytes) {
+        Ok(text) => text,
+        Err(error) => {
+            return Err(LexError::BadUtf8 {
+                place: error.valid_up_to(),
+            });
+        }
+    };
+    let characters: Vec<char> = text.chars().collect(alloc).map_err(LexError::Memory)?;
+    let source = Source {
+        characters: characters.as_slice(),
+        bytes,
+    };
+    let (mark, rest) = split(source, mark_len(source.characters));
+    let items = read_items(alloc, bytes.len(), rest)?;
+    led_by(alloc, mark, items).map_err(LexError::Memory)
+}
+
+/// 1 where a byte order mark begins the text, else 0.
+fn mark_len(text: &[char]) -> usize {
+    match text {
+        ['\u{FEFF}', ..] => 1,
+        _ => 0,
+    }
+}
+
+/// The items with these bytes put in front of the first trivia, or of the tail.
+fn led_by(alloc: Global, mark: &[u8], mut items: Items) -> Result<Items, AllocError> {
+    match items.list.list.first_mut() {
+        Some(first) => first.trivia = with_front(alloc, mark, &first.trivia)?,
+        None => items.tail = with_front(alloc, mark, &items.tail)?,
+    }
+    Ok(items)
+}
+
+fn with_front(alloc: Global, front: &[u8], text: &Text) -> Result<Text, AllocError> {
+    let mut bytes = Vec::from_slice(alloc, front)?;
+    bytes.extend_from_slice(text.as_slice())?;
+    Ok(Text { bytes })
+}
+
+/// The items of what is left of a text of this many bytes.
+fn read_items(alloc: Global, len: usize, source: Source) -> Result<Items, LexError> {
+    let mut list = Vec::new(alloc);
+    let mut left = source;
+    loop {
+        let (trivia, rest) = split(left, trivia_len(left.characters));
+        if rest.characters.is_empty() {
+            let tail = Text::from_slice(alloc, trivia).map_err(LexError::Memory)?;
+            return Ok(Items {
+                list: Seq { list },
+                tail,
+            });
+        }
+        let Some(taken) = lexeme_at(rest.characters) else {
+            return Err(cause_at(rest.characters, len - rest.bytes.len()));
+        };
+        let (text, behind) = split(rest, taken.len);
+        push_item(alloc, &mut list, trivia, taken.class, text).map_err(LexError::Memory)?;
+        left = behind;
+    }
+}
+
+/// Puts an item behind the others.
+fn push_item(
+    alloc: Global,
+    list: &mut Vec<Item>,
+    trivia: &[u8],
+    class: Class,
+    text: &[u8],
+) -> Result<(), AllocError> {
+    let lexeme = Lexeme {
+        class,
+        text: Text::from_slice(alloc, text)?,
+    };
+    let trivia = Text::from_slice(alloc, trivia)?;
+    list.push(Item { trivia, lexeme })?;
+    Ok(())
+}
+
+/// The lexeme that begins the text, if one does.
+fn lexeme_at(text: &[char]) -> Option<Taken>
+    ensures { result ≡ lexeme_at text.now }
+{
+    let (first, rest) = text.split_first()?;
+    match kind_of(*first) {
+        Kind::Small => Some(word_at(text)),
+        Kind::Large => conid_at(text),
+        Kind::Symbol => symbols_at(text),
+        Kind::Special => special_at(text),
+        Kind::Digit => number_at(text),
+        Kind::Quote => char_at_quote(rest),
+        Kind::DoubleQuote => string_at_quote(rest),
+        _ => None,
+    }
+}
+
+/// A bracket, comma, semicolon or backquote, unless a nested comment begins.
+fn special_at(text: &[char]) -> Option<Taken> {
+    match text {
+        ['{', '-', ..] => None,
+        _ => Some(Taken {
+            class: Class::Special,
+            len: 1,
+        }),
+    }
+}
+
+/// Why nothing fits at the place, where this text is left.
+fn cause_at(text: &[char], place: usize) -> LexError {
+    match text {
+        ['{', '-', ..] => LexError::OpenComment { place },
+        [c, ..] if c.is_ascii_digit() => LexError::LiteralTooWide { place },
+        _ => LexError::BadLexeme { place },
+    }
+}

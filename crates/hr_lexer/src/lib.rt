@@ -1,0 +1,19 @@
+//! The lexer: the items of a text by the lexical rules, or the first place where they fail.
+#![tactic(auto)]
+
+mod comments;
+mod error;
+mod escapes;
+mod lexing;
+mod names;
+mod numbers;
+mod quotes;
+mod source;
+mod taken;
+mod tables;
+
+pub use error::LexError;
+pub use lexing::lex;
+
+#[cfg(test)]
+mod tests;
