@@ -1,14 +1,14 @@
 //! Blanks and comments.
-ghost use Rattle.std.specs.Prelude.{◌≡◌, false};
-ghost use Rattle.std.specs.List.{prefix_len};
-ghost use Rattle.hr_rules.specs.Comments.{begins_line_comment, closed_len, goes_on, is_in_line};
+ghost use Rattle.std.specs.Prelude.{◌≡◌, ◌<◌, ◌≤◌, false, length, IfSome};
+ghost use Rattle.hr_rules.specs.Comments.{begins_line_comment, closed_len, goes_on};
 ghost use Rattle.hr_lexer.specs.TriviaReader.{line_comment_len, nested_comment_len, piece_len, trivia_len};
 
 use hr_rules::{Kind, is_newline, is_symbol, kind_of};
 
 /// How many characters of blanks and comments the text begins with.
 pub fn trivia_len(text: &[char]) -> usize
-    ensures { result ≡ trivia_len text.now }
+    ensures value { result ≡ trivia_len text.now }
+    ensures within { result ≤ length text.now }
 {
     let mut rest = text;
     while let Some(len) = piece_len(rest) {
@@ -20,7 +20,9 @@ pub fn trivia_len(text: &[char]) -> usize
 
 /// The length of one blank or one comment.
 fn piece_len(text: &[char]) -> Option<usize>
-    ensures { result ≡ piece_len text.now }
+    ensures value { result ≡ piece_len text.now }
+    ensures within { IfSome result (λ n. n ≤ length text.now) }
+    ensures some { IfSome result (λ n. 0 < n) }
 {
     let first = *text.first()?;
     match kind_of(first) {
@@ -34,7 +36,9 @@ fn piece_len(text: &[char]) -> Option<usize>
 
 /// The length of a line comment.
 fn line_comment_len(text: &[char]) -> Option<usize>
-    ensures { result ≡ line_comment_len text.now }
+    ensures value { result ≡ line_comment_len text.now }
+    ensures within { IfSome result (λ n. n ≤ length text.now) }
+    ensures some { IfSome result (λ n. 0 < n) }
 {
     if begins_line_comment(text) {
         Some(text.iter().take_while(|c| !is_newline(**c)).count())
@@ -66,7 +70,9 @@ fn goes_on(text: &[char]) -> bool
 
 /// The length of a nested comment.
 fn nested_comment_len(text: &[char]) -> Option<usize>
-    ensures { result ≡ nested_comment_len text.now }
+    ensures value { result ≡ nested_comment_len text.now }
+    ensures within { IfSome result (λ n. n ≤ length text.now) }
+    ensures some { IfSome result (λ n. 0 < n) }
 {
     match text {
         ['{', '-', rest @ ..] => Some(closed_len(rest)? + 2),
@@ -76,7 +82,8 @@ fn nested_comment_len(text: &[char]) -> Option<usize>
 
 /// The length up to the end of the first `-}` that has no partner.
 fn closed_len(text: &[char]) -> Option<usize>
-    ensures { result ≡ closed_len false 0 text.now }
+    ensures value { result ≡ closed_len false 0 text.now }
+    ensures within { IfSome result (λ n. n ≤ length text.now) }
 {
     let mut depth: usize = 0;
     let mut rest = text;

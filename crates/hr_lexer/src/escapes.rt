@@ -1,8 +1,5 @@
 //! Escapes and gaps, behind their backslash.
-ghost use Rattle.std.specs.Prelude.{◌≡◌, ◌+◌};
-ghost use Rattle.std.specs.List.{prefix_len};
-ghost use Rattle.std.specs.Option.{option_map};
-ghost use Rattle.hr_rules.specs.Letters.{is_blank};
+ghost use Rattle.std.specs.Prelude.{◌≡◌, ◌≤◌, length, IfSome};
 ghost use Rattle.hr_rules.specs.Quotes.{code_len, control_len, escape_len, gap_len, is_code, is_control_letter, string_escape_len};
 
 use crate::numbers::{digits_len, value_capped};
@@ -70,7 +67,8 @@ fn is_control_letter(c: char) -> bool
 
 /// The length of all digits that the text begins with, if they are the code of a character.
 fn code_len(base: u32, text: &[char]) -> Option<usize>
-    ensures { result ≡ code_len base text.now }
+    ensures value { result ≡ code_len base text.now }
+    ensures within { IfSome result (λ n. n ≤ length text.now) }
 {
     let len = digits_len(base, text);
     let (digits, _) = text.split_at(len);

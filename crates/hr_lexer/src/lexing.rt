@@ -1,6 +1,7 @@
 //! The lexer's one call.
-ghost use Rattle.std.specs.Prelude.{◌≡◌};
-ghost use Rattle.hr_lexer.specs.LexemeReader.{lexeme_at, special_at};
+ghost use Rattle.std.specs.Prelude.{◌≡◌, ◌<◌, ◌≤◌, length, IfSome};
+ghost use Rattle.std.specs.Str.{encode_utf8_all};
+ghost use Rattle.hr_lexer.specs.LexemeReader.{lexeme_at};
 
 use crate::LexError;
 use crate::comments::trivia_len;
@@ -63,7 +64,10 @@ fn with_front(alloc: Global, front: &[u8], text: &Text) -> Result<Text, AllocErr
 }
 
 /// The items of what is left of a text of this many bytes.
-fn read_items(alloc: Global, len: usize, source: Source) -> Result<Items, LexError> {
+fn read_items(alloc: Global, len: usize, source: Source) -> Result<Items, LexError>
+    requires spelled { source.bytes.now ≡ encode_utf8_all source.characters.now }
+    requires len { length source.bytes.now ≤ len }
+{
     let mut list = Vec::new(alloc);
     let mut left = source;
     loop {
@@ -103,7 +107,9 @@ fn push_item(
 
 /// The lexeme that begins the text, if one does.
 fn lexeme_at(text: &[char]) -> Option<Taken>
-    ensures { result ≡ lexeme_at text.now }
+    ensures value { result ≡ lexeme_at text.now }
+    ensures within { IfSome result (λ taken. taken.len ≤ length text.now) }
+    ensures some { IfSome result (λ taken. 0 < taken.len) }
 {
     let (first, rest) = text.split_first()?;
     match kind_of(*first) {

@@ -1,9 +1,10 @@
 //! Names, operators and qualified names.
-ghost use Rattle.std.specs.Prelude.{◌≡◌};
+ghost use Rattle.std.specs.Prelude.{◌≡◌, ◌+◌, ◌<◌, ◌≤◌, ◌^◌, length, true, IfSome};
 ghost use Rattle.std.specs.List.{prefix_len};
 ghost use Rattle.hr_rules.specs.Letters.{is_in_name, is_symbol};
 ghost use Rattle.hr_rules.specs.Names.{word_class};
 ghost use Rattle.hr_rules.specs.Operators.{is_dashes, run_class};
+ghost use Rattle.hr_rules.specs.Runs.{begins};
 ghost use Rattle.hr_lexer.specs.NameReader.{behind_dot, conid_at, name_at, symbols_at, with_qualifier, word_at};
 
 use crate::tables::{is_reserved_operator, is_reserved_word};
@@ -13,7 +14,9 @@ use hr_rules::{Kind, is_in_name, is_symbol, kind_of};
 
 /// A variable or a reserved word.
 pub fn word_at(text: &[char]) -> Taken
-    ensures { result ≡ word_at text.now }
+    ensures value { result ≡ word_at text.now }
+    ensures within { result.len ≤ length text.now }
+    ensures some { begins is_in_name text.now ≡ true → 0 < result.len }
 {
     let len = name_len(text);
     let (word, _) = text.split_at(len);
@@ -25,7 +28,9 @@ pub fn word_at(text: &[char]) -> Taken
 
 /// An operator, unless it is a run of dashes.
 pub fn symbols_at(text: &[char]) -> Option<Taken>
-    ensures { result ≡ symbols_at text.now }
+    ensures value { result ≡ symbols_at text.now }
+    ensures within { IfSome result (λ taken. taken.len ≤ length text.now) }
+    ensures some { begins is_symbol text.now ≡ true → IfSome result (λ taken. 0 < taken.len) }
 {
     let len = symbols_len(text);
     let (run, _) = text.split_at(len);
@@ -40,7 +45,9 @@ pub fn symbols_at(text: &[char]) -> Option<Taken>
 
 /// A constructor, or a qualified name, unless its last part is a reserved word.
 pub fn conid_at(text: &[char]) -> Option<Taken>
-    ensures { result ≡ conid_at text.now }
+    ensures value { result ≡ conid_at text.now }
+    ensures within { IfSome result (λ taken. taken.len ≤ length text.now) }
+    ensures some { begins is_in_name text.now ≡ true → IfSome result (λ taken. 0 < taken.len) }
 {
     let len = name_len(text);
     let (_, rest) = text.split_at(len);
@@ -49,7 +56,10 @@ pub fn conid_at(text: &[char]) -> Option<Taken>
 
 /// A conid of `len` characters, and the name behind its dot.
 fn with_qualifier(len: usize, name: Option<Taken>) -> Option<Taken>
-    ensures { result ≡ with_qualifier len name }
+    requires { IfSome name (λ taken. len + 1 + taken.len < 2 ^ 64) }
+    ensures value { result ≡ with_qualifier len name }
+    ensures some { IfSome result (λ taken. len ≤ taken.len) }
+    ensures within { IfSome result (λ taken. IfSome name (λ more. taken.len ≤ len + 1 + more.len)) }
 {
     let conid = Taken {
         class: Class::ConId,
@@ -72,7 +82,8 @@ fn with_qualifier(len: usize, name: Option<Taken>) -> Option<Taken>
 
 /// The name behind a dot.
 fn behind_dot(text: &[char]) -> Option<Taken>
-    ensures { result ≡ behind_dot text.now }
+    ensures value { result ≡ behind_dot text.now }
+    ensures within { IfSome result (λ taken. taken.len < length text.now) }
 {
     match text {
         ['.', name @ ..] => name_at(name),
@@ -82,7 +93,8 @@ fn behind_dot(text: &[char]) -> Option<Taken>
 
 /// A name without a qualifier.
 fn name_at(text: &[char]) -> Option<Taken>
-    ensures { result ≡ name_at text.now }
+    ensures value { result ≡ name_at text.now }
+    ensures within { IfSome result (λ taken. taken.len ≤ length text.now) }
 {
     let first = *text.first()?;
     match kind_of(first) {
@@ -98,14 +110,18 @@ fn name_at(text: &[char]) -> Option<Taken>
 
 /// How many characters of names the text begins with.
 fn name_len(text: &[char]) -> usize
-    ensures { result ≡ prefix_len is_in_name text.now }
+    ensures value { result ≡ prefix_len is_in_name text.now }
+    ensures within { result ≤ length text.now }
+    ensures some { begins is_in_name text.now ≡ true → 0 < result }
 {
     text.iter().take_while(|c| is_in_name(**c)).count()
 }
 
 /// How many symbols the text begins with.
 fn symbols_len(text: &[char]) -> usize
-    ensures { result ≡ prefix_len is_symbol text.now }
+    ensures value { result ≡ prefix_len is_symbol text.now }
+    ensures within { result ≤ length text.now }
+    ensures some { begins is_symbol text.now ≡ true → 0 < result }
 {
     text.iter().take_while(|c| is_symbol(**c)).count()
 }

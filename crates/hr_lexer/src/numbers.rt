@@ -1,7 +1,8 @@
 //! Integers and floats.
-ghost use Rattle.std.specs.Prelude.{◌≡◌, ◌||◌, ◌==◌};
+ghost use Rattle.std.specs.Prelude.{◌≡◌, ◌+◌, ◌<◌, ◌≤◌, ◌^◌, length, true, IfSome};
 ghost use Rattle.std.specs.Char.{digit_value};
-ghost use Rattle.hr_rules.specs.Numbers.{is_e, is_o, is_x};
+ghost use Rattle.hr_rules.specs.Numbers.{is_decimal, is_o, is_x};
+ghost use Rattle.hr_rules.specs.Runs.{begins};
 ghost use Rattle.hr_lexer.specs.NumberReader.{digits_len, exponent_len, float_len, float_part_len, fraction_len, integer_at, integer_digits, is_wide, number_at, signed_len, with_more};
 
 use crate::taken::Taken;
@@ -19,7 +20,9 @@ pub struct Digits {
 
 /// A number, unless it is an integer that is too great.
 pub fn number_at(text: &[char]) -> Option<Taken>
-    ensures { result ≡ number_at text.now }
+    ensures value { result ≡ number_at text.now }
+    ensures within { IfSome result (λ taken. taken.len ≤ length text.now) }
+    ensures some { begins is_decimal text.now ≡ true → IfSome result (λ taken. 0 < taken.len) }
 {
     let len = float_len(text);
     if len == 0 {
@@ -33,7 +36,9 @@ pub fn number_at(text: &[char]) -> Option<Taken>
 
 /// An integer, unless it is too great.
 fn integer_at(text: &[char]) -> Option<Taken>
-    ensures { result ≡ integer_at text.now }
+    ensures value { result ≡ integer_at text.now }
+    ensures within { IfSome result (λ taken. taken.len ≤ length text.now) }
+    ensures some { begins is_decimal text.now ≡ true → IfSome result (λ taken. 0 < taken.len) }
 {
     let digits = integer_digits(text);
     let (_, rest) = text.split_at(digits.skipped);
@@ -49,7 +54,9 @@ fn integer_at(text: &[char]) -> Option<Taken>
 
 /// The digits of the integer that begins the text.
 fn integer_digits(text: &[char]) -> Digits
-    ensures { result ≡ integer_digits text.now }
+    ensures value { result ≡ integer_digits text.now }
+    ensures within { result.skipped + result.len ≤ length text.now }
+    ensures some { begins is_decimal text.now ≡ true → 0 < result.skipped + result.len }
 {
     match text {
         ['0', mark, rest @ ..] if is_x(*mark) && digits_len(16, rest) > 0 => Digits {
@@ -84,7 +91,8 @@ fn is_o(mark: char) -> bool
 
 /// How many digits of the base the text begins with.
 pub fn digits_len(base: u32, text: &[char]) -> usize
-    ensures { result ≡ digits_len base text.now }
+    ensures value { result ≡ digits_len base text.now }
+    ensures within { result ≤ length text.now }
 {
     text.iter().take_while(|c| digit_value(**c) < base).count()
 }
@@ -116,7 +124,8 @@ pub fn value_capped(base: u32, digits: &[char]) -> u64 {
 
 /// The length of the float that begins the text, 0 where none does.
 fn float_len(text: &[char]) -> usize
-    ensures { result ≡ float_len text.now }
+    ensures value { result ≡ float_len text.now }
+    ensures within { result ≤ length text.now }
 {
     let digits = digits_len(10, text);
     let (_, rest) = text.split_at(digits);
@@ -125,7 +134,8 @@ fn float_len(text: &[char]) -> usize
 
 /// The length of what makes a float of digits, 0 where nothing does.
 fn float_part_len(text: &[char]) -> usize
-    ensures { result ≡ float_part_len text.now }
+    ensures value { result ≡ float_part_len text.now }
+    ensures within { result ≤ length text.now }
 {
     match text {
         ['.', rest @ ..] => with_more(1, fraction_len(rest)),
@@ -135,7 +145,8 @@ fn float_part_len(text: &[char]) -> usize
 
 /// The length of digits and maybe an exponent, 0 where there is no digit.
 fn fraction_len(text: &[char]) -> usize
-    ensures { result ≡ fraction_len text.now }
+    ensures value { result ≡ fraction_len text.now }
+    ensures within { result ≤ length text.now }
 {
     let digits = digits_len(10, text);
     if digits == 0 {
@@ -147,7 +158,8 @@ fn fraction_len(text: &[char]) -> usize
 
 /// The length of an exponent, 0 where there is none.
 fn exponent_len(text: &[char]) -> usize
-    ensures { result ≡ exponent_len text.now }
+    ensures value { result ≡ exponent_len text.now }
+    ensures within { result ≤ length text.now }
 {
     match text {
         ['e', rest @ ..] => with_more(1, signed_len(rest)),
@@ -158,7 +170,8 @@ fn exponent_len(text: &[char]) -> usize
 
 /// The length of decimal digits that a sign may precede, 0 where there is no digit.
 fn signed_len(text: &[char]) -> usize
-    ensures { result ≡ signed_len text.now }
+    ensures value { result ≡ signed_len text.now }
+    ensures within { result ≤ length text.now }
 {
     match text {
         ['+', rest @ ..] => with_more(1, digits_len(10, rest)),
@@ -169,7 +182,9 @@ fn signed_len(text: &[char]) -> usize
 
 /// `more` and `len` together, and 0 where `len` is 0.
 fn with_more(more: usize, len: usize) -> usize
-    ensures { result ≡ with_more more len }
+    requires { more + len < 2 ^ 64 }
+    ensures value { result ≡ with_more more len }
+    ensures within { result ≤ more + len }
 {
     if len == 0 { 0 } else { more + len }
 }

@@ -1,5 +1,5 @@
 //! Characters and strings, behind their first quote.
-ghost use Rattle.std.specs.Prelude.{◌≡◌};
+ghost use Rattle.std.specs.Prelude.{◌≡◌, ◌+◌, ◌<◌, ◌≤◌, ◌^◌, length, IfSome, Some};
 ghost use Rattle.hr_rules.specs.Quotes.{char_len, closed_behind, is_closed, is_plain, string_len};
 ghost use Rattle.hr_lexer.specs.QuoteReader.{char_at_quote, literal, string_at_quote};
 
@@ -9,21 +9,30 @@ use hr_base::Class;
 
 /// A character literal.
 pub fn char_at_quote(text: &[char]) -> Option<Taken>
-    ensures { result ≡ char_at_quote text.now }
+    requires { length text.now + 1 < 2 ^ 64 }
+    ensures value { result ≡ char_at_quote text.now }
+    ensures within { IfSome result (λ taken. taken.len ≤ length text.now + 1) }
+    ensures some { IfSome result (λ taken. 0 < taken.len) }
 {
     literal(Class::Char, char_len(text))
 }
 
 /// A string literal.
 pub fn string_at_quote(text: &[char]) -> Option<Taken>
-    ensures { result ≡ string_at_quote text.now }
+    requires { length text.now + 1 < 2 ^ 64 }
+    ensures value { result ≡ string_at_quote text.now }
+    ensures within { IfSome result (λ taken. taken.len ≤ length text.now + 1) }
+    ensures some { IfSome result (λ taken. 0 < taken.len) }
 {
     literal(Class::Str, string_len(text))
 }
 
 /// A literal whose length is known but for its first quote.
 fn literal(class: Class, len: Option<usize>) -> Option<Taken>
-    ensures { result ≡ literal class len }
+    requires { IfSome len (λ n. n + 1 < 2 ^ 64) }
+    ensures value { result ≡ literal class len }
+    ensures within { IfSome result (λ taken. IfSome len (λ n. taken.len ≤ n + 1)) }
+    ensures some { IfSome result (λ taken. 0 < taken.len) }
 {
     Some(Taken {
         class,
@@ -33,18 +42,22 @@ fn literal(class: Class, len: Option<usize>) -> Option<Taken>
 
 /// The length of a character literal.
 fn char_len(text: &[char]) -> Option<usize>
-    ensures { result ≡ char_len text.now }
+    ensures value { result ≡ char_len text.now }
+    ensures within { IfSome result (λ n. n ≤ length text.now) }
 {
     match text {
         [] => None,
-        [c, rest @ ..] if is_plain('\'', *c) => closed_len(rest, 1),
+        [c, rest @ ..] if is_plain('\'', *c) => closed_behind(rest, 0),
         ['\\', rest @ ..] => closed_behind(rest, escape_len(rest)?),
         _ => None,
     }
 }
 
 /// The length up to the closing quote, where it stands behind an escape of `len` characters.
-fn closed_behind(text: &[char], len: usize) -> Option<usize> {
+fn closed_behind(text: &[char], len: usize) -> Option<usize>
+    ensures value { result ≡ closed_behind text.now (Some len) }
+    ensures within { IfSome result (λ n. n ≤ length text.now + 1) }
+{
     let (_, rest) = text.split_at_checked(len)?;
     match rest {
         ['\'', ..] => Some(len + 2),
@@ -52,16 +65,10 @@ fn closed_behind(text: &[char], len: usize) -> Option<usize> {
     }
 }
 
-fn closed_len(text: &[char], before: usize) -> Option<usize> {
-    match text {
-        ['\'', ..] => Some(before + 1),
-        _ => None,
-    }
-}
-
 /// The length of a string.
 fn string_len(text: &[char]) -> Option<usize>
-    ensures { result ≡ string_len text.now }
+    ensures value { result ≡ string_len text.now }
+    ensures within { IfSome result (λ n. n ≤ length text.now) }
 {
     let mut rest = text;
     loop {

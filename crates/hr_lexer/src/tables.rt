@@ -1,10 +1,10 @@
 //! Words, operators and names of controls that a text may spell.
-ghost use Rattle.std.specs.Prelude.{◌≡◌, nat_eq};
-ghost use Rattle.std.specs.List.{starts_with};
+ghost use Rattle.std.specs.Prelude.{◌≡◌};
 ghost use Rattle.std.specs.Str.{bytes_eq};
 ghost use Rattle.hr_rules.specs.Names.{is_reserved_word};
 ghost use Rattle.hr_rules.specs.Operators.{is_reserved_operator};
 ghost use Rattle.hr_rules.specs.Quotes.{ascii_names, named_len};
+ghost use Rattle.hr_rules.specs.Runs.{begins_word};
 
 const RESERVED_WORDS: [&[u8]; 22] = [
     b"case",
@@ -77,7 +77,7 @@ fn spells(text: &[char], name: &[u8]) -> bool
 
 /// Whether the text begins with the ASCII name.
 fn begins_with(text: &[char], name: &[u8]) -> bool
-    ensures { result ≡ starts_with nat_eq text.now name.now }
+    ensures { result ≡ begins_word name.now text.now }
 {
     let mut left = text;
     for byte in name {

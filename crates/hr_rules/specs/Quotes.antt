@@ -1,13 +1,13 @@
 -- Characters and strings: the Haskell 98 Report, section 2.6. Both hold any character but controls, the
 -- backslash and their own quote, and escapes; strings hold `\&` and gaps as well.
-use Rattle.std.specs.Prelude.{ℕ, zero, suc, ◌+◌, ◌-◌, Bool, true, false, not, ◌&&◌, ◌||◌, ◌==◌, nat_le, nat_lt, nat_eq, if◌then◌else◌, List, [], ◌∷◌, Option, Some, None, take, drop, length}
-use Rattle.std.specs.List.{prefix_len, starts_with}
+use Rattle.std.specs.Prelude.{ℕ, zero, suc, ◌+◌, ◌-◌, Bool, true, false, not, ◌&&◌, ◌||◌, ◌==◌, nat_le, nat_lt, if◌then◌else◌, List, [], ◌∷◌, Option, Some, None, take, drop, length}
+use Rattle.std.specs.List.{prefix_len}
 use Rattle.std.specs.Option.{option_map}
 use Rattle.std.specs.Char.{is_control, is_ascii_uppercase, is_digit}
 use lib.Chars.{codes}
 use Rattle.hr_base.specs.declared.lexeme.Class.{Class}
 use Rattle.hr_rules.specs.Letters.{among, is_blank}
-use Rattle.hr_rules.specs.Runs.{begins_with}
+use Rattle.hr_rules.specs.Runs.{begins_with, begins_word}
 use Rattle.hr_rules.specs.Numbers.{value_of, is_decimal}
 
 abbrev pub backslash : ℕ
@@ -43,7 +43,7 @@ ascii_names =
 -- the length of the first of the names that the text begins with
 abbrev pub named_len : List (List ℕ) → List ℕ → Option ℕ
 named_len [] text = None
-named_len (name ∷ names) text = if starts_with nat_eq text name then Some (length name) else named_len names text
+named_len (name ∷ names) text = if begins_word name text then Some (length name) else named_len names text
 
 -- a number that is the code of a character: at most 0x10FFFF, and no surrogate
 abbrev pub is_code : ℕ → Bool
@@ -74,7 +74,7 @@ escape_len (c ∷ rest) =
 abbrev pub gap_len : List ℕ → Option ℕ
 gap_len text =
     let n = prefix_len is_blank text in
-    if nat_lt 0 n && starts_with nat_eq (drop n text) (backslash ∷ []) then Some (n + 1) else None
+    if nat_lt 0 n && begins_with backslash (drop n text) then Some (n + 1) else None
 
 -- the same for what a string may hold behind a backslash
 abbrev pub string_escape_len : List ℕ → Option ℕ

@@ -18,3 +18,9 @@ begins p (c ∷ rest) = p c
 
 abbrev pub begins_with : ℕ → List ℕ → Bool
 begins_with d text = begins (λ c. c == d) text
+
+-- these characters begin the text
+abbrev pub begins_word : List ℕ → List ℕ → Bool
+begins_word [] text = true
+begins_word (b ∷ word) [] = false
+begins_word (b ∷ word) (c ∷ text) = c == b && begins_word word text
