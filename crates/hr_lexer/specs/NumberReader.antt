@@ -1,5 +1,5 @@
 -- What is read where a number begins.
-use Rattle.std.specs.Prelude.{ℕ, ◌+◌, ◌-◌, ◌&&◌, ◌||◌, ◌==◌, Bool, nat_lt, if◌then◌else◌, List, [], ◌∷◌, Option, Some, None, take, drop}
+use Rattle.std.specs.Prelude.{ℕ, ◌+◌, ◌-◌, ◌||◌, ◌==◌, Bool, nat_lt, if◌then◌else◌, List, [], ◌∷◌, Option, Some, None, take, drop}
 use Rattle.std.specs.List.{prefix_len}
 use Rattle.std.specs.Char.{is_digit}
 use Rattle.hr_base.specs.declared.lexeme.Class.{Class}
@@ -38,20 +38,23 @@ float_part_len (c ∷ rest) = if c == 46 then with_more 1 (fraction_len rest) el
 abbrev pub float_len : List ℕ → ℕ
 float_len text = let n = digits_len 10 text in with_more n (float_part_len (drop n text))
 
--- an integer by its base, how many characters stand before its digits, and how many digits there are
-abbrev pub based : ℕ → List ℕ → Digits
-based base text = record { base = base; skipped = 2; len = digits_len base text }
-
 abbrev pub decimal_digits : List ℕ → Digits
 decimal_digits text = record { base = 10; skipped = 0; len = digits_len 10 text }
+
+-- an integer by its base, how many characters stand before its digits, and how many digits there are
+abbrev pub based_digits : ℕ → List ℕ → List ℕ → Digits
+based_digits base rest text =
+    let n = digits_len base rest in
+    if n == 0 then decimal_digits text else record { base = base; skipped = 2; len = n }
+
+abbrev pub marked_digits : ℕ → List ℕ → List ℕ → Digits
+marked_digits m rest text =
+    if is_x m then based_digits 16 rest text else (if is_o m then based_digits 8 rest text else decimal_digits text)
 
 abbrev pub integer_digits : List ℕ → Digits
 integer_digits [] = decimal_digits []
 integer_digits (c ∷ []) = decimal_digits (c ∷ [])
-integer_digits (c ∷ m ∷ rest) =
-    if (c == 48 && is_x m) && nat_lt 0 (digits_len 16 rest) then based 16 rest
-    else (if (c == 48 && is_o m) && nat_lt 0 (digits_len 8 rest) then based 8 rest
-    else decimal_digits (c ∷ m ∷ rest))
+integer_digits (c ∷ m ∷ rest) = if c == 48 then marked_digits m rest (c ∷ m ∷ rest) else decimal_digits (c ∷ m ∷ rest)
 
 abbrev pub is_wide : ℕ → List ℕ → Bool
 is_wide base digits = nat_lt greatest_integer (value_of base digits)

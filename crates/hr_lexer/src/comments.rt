@@ -1,6 +1,7 @@
 //! Blanks and comments.
 ghost use Rattle.std.specs.Prelude.{◌≡◌, ◌<◌, ◌≤◌, false, length, IfSome};
-ghost use Rattle.hr_rules.specs.Comments.{begins_line_comment, closed_len, goes_on};
+ghost use Rattle.std.specs.List.{prefix_len};
+ghost use Rattle.hr_rules.specs.Comments.{begins_line_comment, closed_len, goes_on, is_in_line};
 ghost use Rattle.hr_lexer.specs.TriviaReader.{line_comment_len, nested_comment_len, piece_len, trivia_len};
 
 use hr_rules::{Kind, is_newline, is_symbol, kind_of};
@@ -41,10 +42,24 @@ fn line_comment_len(text: &[char]) -> Option<usize>
     ensures some { IfSome result (λ n. 0 < n) }
 {
     if begins_line_comment(text) {
-        Some(text.iter().take_while(|c| !is_newline(**c)).count())
+        Some(line_len(text))
     } else {
         None
     }
+}
+
+/// How many characters stand before the next newline or the end.
+fn line_len(text: &[char]) -> usize
+    ensures value { result ≡ prefix_len is_in_line text.now }
+    ensures within { result ≤ length text.now }
+{
+    text.iter().take_while(|c| is_in_line(**c)).count()
+}
+
+fn is_in_line(c: char) -> bool
+    ensures { result ≡ is_in_line c }
+{
+    !is_newline(c)
 }
 
 fn begins_line_comment(text: &[char]) -> bool
@@ -60,11 +75,13 @@ fn begins_line_comment(text: &[char]) -> bool
 fn goes_on(text: &[char]) -> bool
     ensures { result ≡ goes_on text.now }
 {
-    let dashes = text.iter().take_while(|c| **c == '-').count();
-    let (_, rest) = text.split_at(dashes);
-    match rest {
-        [c, ..] => is_symbol(*c),
-        [] => false,
+    let mut rest = text;
+    loop {
+        match rest {
+            ['-', tail @ ..] => rest = tail,
+            [c, ..] => return is_symbol(*c),
+            [] => return false,
+        }
     }
 }
 

@@ -1,5 +1,5 @@
 //! Escapes and gaps, behind their backslash.
-ghost use Rattle.std.specs.Prelude.{◌≡◌, ◌≤◌, length, IfSome};
+ghost use Rattle.std.specs.Prelude.{◌≡◌, ◌<◌, ◌≤◌, length, IfSome};
 ghost use Rattle.hr_rules.specs.Quotes.{code_len, control_len, escape_len, gap_len, is_code, is_control_letter, string_escape_len};
 
 use crate::numbers::{digits_len, value_capped};
@@ -11,6 +11,7 @@ const LETTERS: [char; 10] = ['a', 'b', 'f', 'n', 'r', 't', 'v', '\\', '"', '\'']
 const CONTROL_MARKS: [char; 6] = ['@', '[', '\\', ']', '^', '_'];
 
 /// The length of the longest escape that the text begins with.
+#[tactic(auto, unfolding(hr_rules::specs::Quotes::escape_len))]
 pub fn escape_len(text: &[char]) -> Option<usize>
     ensures { result ≡ escape_len text.now }
 {
@@ -42,9 +43,12 @@ fn gap_len(text: &[char]) -> Option<usize>
     ensures { result ≡ gap_len text.now }
 {
     let blanks = text.iter().take_while(|c| is_blank_char(**c)).count();
+    if blanks == 0 {
+        return None;
+    }
     let (_, rest) = text.split_at(blanks);
     match rest {
-        ['\\', ..] if blanks > 0 => Some(blanks + 1),
+        ['\\', ..] => Some(blanks + 1),
         _ => None,
     }
 }
@@ -67,12 +71,16 @@ fn is_control_letter(c: char) -> bool
 
 /// The length of all digits that the text begins with, if they are the code of a character.
 fn code_len(base: u32, text: &[char]) -> Option<usize>
+    requires { 0 < base }
     ensures value { result ≡ code_len base text.now }
     ensures within { IfSome result (λ n. n ≤ length text.now) }
 {
     let len = digits_len(base, text);
+    if len == 0 {
+        return None;
+    }
     let (digits, _) = text.split_at(len);
-    if len > 0 && is_code(value_capped(base, digits)) {
+    if is_code(value_capped(base, digits)) {
         Some(len)
     } else {
         None

@@ -1,9 +1,9 @@
 //! Names, operators and qualified names.
 ghost use Rattle.std.specs.Prelude.{◌≡◌, ◌+◌, ◌<◌, ◌≤◌, ◌^◌, length, true, IfSome};
-ghost use Rattle.std.specs.List.{prefix_len};
+ghost use Rattle.std.specs.List.{list_all, prefix_len};
 ghost use Rattle.hr_rules.specs.Letters.{is_in_name, is_symbol};
 ghost use Rattle.hr_rules.specs.Names.{word_class};
-ghost use Rattle.hr_rules.specs.Operators.{is_dashes, run_class};
+ghost use Rattle.hr_rules.specs.Operators.{is_dash, is_dashes, run_class};
 ghost use Rattle.hr_rules.specs.Runs.{begins};
 ghost use Rattle.hr_lexer.specs.NameReader.{behind_dot, conid_at, name_at, symbols_at, with_qualifier, word_at};
 
@@ -130,11 +130,19 @@ fn symbols_len(text: &[char]) -> usize
 fn is_dashes(run: &[char]) -> bool
     ensures { result ≡ is_dashes run.now }
 {
-    match run {
-        [] => false,
-        [_] => false,
-        _ => run.iter().all(|c| *c == '-'),
+    run.len() > 1 && are_dashes(run)
+}
+
+/// Whether each character is a dash.
+fn are_dashes(run: &[char]) -> bool
+    ensures { result ≡ list_all is_dash run.now }
+{
+    for c in run {
+        if *c != '-' {
+            return false;
+        }
     }
+    true
 }
 
 /// The class of a word that begins with a small letter.

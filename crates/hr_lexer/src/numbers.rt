@@ -1,9 +1,9 @@
 //! Integers and floats.
-ghost use Rattle.std.specs.Prelude.{◌≡◌, ◌+◌, ◌<◌, ◌≤◌, ◌^◌, length, true, IfSome};
+ghost use Rattle.std.specs.Prelude.{◌≡◌, ◌+◌, ◌<◌, ◌≤◌, ◌^◌, length, min, true, IfSome};
 ghost use Rattle.std.specs.Char.{digit_value};
-ghost use Rattle.hr_rules.specs.Numbers.{is_decimal, is_o, is_x};
+ghost use Rattle.hr_rules.specs.Numbers.{is_decimal, is_o, is_x, value_of};
 ghost use Rattle.hr_rules.specs.Runs.{begins};
-ghost use Rattle.hr_lexer.specs.NumberReader.{digits_len, exponent_len, float_len, float_part_len, fraction_len, integer_at, integer_digits, is_wide, number_at, signed_len, with_more};
+ghost use Rattle.hr_lexer.specs.NumberReader.{based_digits, decimal_digits, digits_len, exponent_len, float_len, float_part_len, fraction_len, integer_at, integer_digits, is_wide, marked_digits, number_at, signed_len, with_more};
 
 use crate::taken::Taken;
 use hr_base::Class;
@@ -55,25 +55,63 @@ fn integer_at(text: &[char]) -> Option<Taken>
 /// The digits of the integer that begins the text.
 fn integer_digits(text: &[char]) -> Digits
     ensures value { result ≡ integer_digits text.now }
+    ensures base { 0 < result.base }
     ensures within { result.skipped + result.len ≤ length text.now }
     ensures some { begins is_decimal text.now ≡ true → 0 < result.skipped + result.len }
 {
     match text {
-        ['0', mark, rest @ ..] if is_x(*mark) && digits_len(16, rest) > 0 => Digits {
-            base: 16,
-            skipped: 2,
-            len: digits_len(16, rest),
-        },
-        ['0', mark, rest @ ..] if is_o(*mark) && digits_len(8, rest) > 0 => Digits {
-            base: 8,
-            skipped: 2,
-            len: digits_len(8, rest),
-        },
-        _ => Digits {
-            base: 10,
-            skipped: 0,
-            len: digits_len(10, text),
-        },
+        ['0', mark, rest @ ..] => marked_digits(*mark, rest, text),
+        _ => decimal_digits(text),
+    }
+}
+
+/// The same behind a 0 and a letter.
+fn marked_digits(mark: char, rest: &[char], text: &[char]) -> Digits
+    requires { 2 + length rest.now ≡ length text.now }
+    ensures value { result ≡ marked_digits mark rest.now text.now }
+    ensures base { 0 < result.base }
+    ensures within { result.skipped + result.len ≤ length text.now }
+    ensures some { begins is_decimal text.now ≡ true → 0 < result.skipped + result.len }
+{
+    if is_x(mark) {
+        based_digits(16, rest, text)
+    } else if is_o(mark) {
+        based_digits(8, rest, text)
+    } else {
+        decimal_digits(text)
+    }
+}
+
+/// Digits of the base behind a 0 and a letter, or decimal ones where there are none.
+fn based_digits(base: u32, rest: &[char], text: &[char]) -> Digits
+    requires rest { 2 + length rest.now ≡ length text.now }
+    requires base { 0 < base }
+    ensures value { result ≡ based_digits base rest.now text.now }
+    ensures base { 0 < result.base }
+    ensures within { result.skipped + result.len ≤ length text.now }
+    ensures some { begins is_decimal text.now ≡ true → 0 < result.skipped + result.len }
+{
+    let len = digits_len(base, rest);
+    if len == 0 {
+        return decimal_digits(text);
+    }
+    Digits {
+        base,
+        skipped: 2,
+        len,
+    }
+}
+
+fn decimal_digits(text: &[char]) -> Digits
+    ensures value { result ≡ decimal_digits text.now }
+    ensures base { 0 < result.base }
+    ensures within { result.skipped + result.len ≤ length text.now }
+    ensures some { begins is_decimal text.now ≡ true → 0 < result.skipped + result.len }
+{
+    Digits {
+        base: 10,
+        skipped: 0,
+        len: digits_len(10, text),
     }
 }
 
@@ -106,13 +144,17 @@ fn digit_value(c: char) -> u32
 
 /// Whether the digits stand for a number above the greatest integer.
 fn is_wide(base: u32, digits: &[char]) -> bool
+    requires { 0 < base }
     ensures { result ≡ is_wide base digits.now }
 {
     value_capped(base, digits) > GREATEST_INTEGER
 }
 
 /// The number that the digits stand for, or `u64::MAX` where it is greater.
-pub fn value_capped(base: u32, digits: &[char]) -> u64 {
+pub fn value_capped(base: u32, digits: &[char]) -> u64
+    requires { 0 < base }
+    ensures { result ≡ min u64.MAX (value_of base digits.now) }
+{
     let mut value: u64 = 0;
     for digit in digits {
         value = value

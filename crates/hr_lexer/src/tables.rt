@@ -1,7 +1,6 @@
 //! Words, operators and names of controls that a text may spell.
-ghost use Rattle.std.specs.Prelude.{◌≡◌};
-ghost use Rattle.std.specs.Str.{bytes_eq};
-ghost use Rattle.hr_rules.specs.Names.{is_reserved_word};
+ghost use Rattle.std.specs.Prelude.{◌≡◌, map};
+ghost use Rattle.hr_rules.specs.Names.{is_one_of, is_reserved_word, is_spelled};
 ghost use Rattle.hr_rules.specs.Operators.{is_reserved_operator};
 ghost use Rattle.hr_rules.specs.Quotes.{ascii_names, named_len};
 ghost use Rattle.hr_rules.specs.Runs.{begins_word};
@@ -43,48 +42,70 @@ const CONTROL_NAMES: [&[u8]; 34] = [
 ];
 
 /// Whether the word is reserved.
+#[tactic(auto, unfolding(hr_rules::specs::Names::is_reserved_word))]
 pub fn is_reserved_word(word: &[char]) -> bool
     ensures { result ≡ is_reserved_word word.now }
 {
-    RESERVED_WORDS.iter().any(|name| spells(word, name))
+    is_one_of(&RESERVED_WORDS, word)
 }
 
 /// Whether the operator is reserved.
+#[tactic(auto, unfolding(hr_rules::specs::Operators::is_reserved_operator))]
 pub fn is_reserved_operator(operator: &[char]) -> bool
     ensures { result ≡ is_reserved_operator operator.now }
 {
-    RESERVED_OPERATORS.iter().any(|name| spells(operator, name))
+    is_one_of(&RESERVED_OPERATORS, operator)
 }
 
 /// The length of the name of a control that the text begins with.
 pub fn control_name_len(text: &[char]) -> Option<usize>
     ensures { result ≡ named_len ascii_names text.now }
 {
-    for name in CONTROL_NAMES.iter() {
-        if begins_with(text, name) {
+    named_len(&CONTROL_NAMES, text)
+}
+
+/// Whether the text is one of the words.
+fn is_one_of(table: &[&[u8]], text: &[char]) -> bool
+    ensures { result ≡ is_one_of (map (λ word. word.now) table.now) text.now }
+{
+    for word in table {
+        if is_spelled(word, text) {
+            return true;
+        }
+    }
+    false
+}
+
+/// The length of the first of the names that the text begins with.
+fn named_len(table: &[&[u8]], text: &[char]) -> Option<usize>
+    ensures { result ≡ named_len (map (λ word. word.now) table.now) text.now }
+{
+    for name in table {
+        if begins_word(name, text) {
             return Some(name.len());
         }
     }
     None
 }
 
-/// Whether the text is spelled as the ASCII name.
-fn spells(text: &[char], name: &[u8]) -> bool
-    ensures { result ≡ bytes_eq text.now name.now }
+/// Whether the text is the word.
+fn is_spelled(word: &[u8], text: &[char]) -> bool
+    ensures { result ≡ is_spelled word.now text.now }
 {
-    text.len() == name.len() && begins_with(text, name)
+    text.len() == word.len() && begins_word(word, text)
 }
 
-/// Whether the text begins with the ASCII name.
-fn begins_with(text: &[char], name: &[u8]) -> bool
-    ensures { result ≡ begins_word name.now text.now }
+/// Whether the text begins with the word.
+fn begins_word(word: &[u8], text: &[char]) -> bool
+    ensures { result ≡ begins_word word.now text.now }
 {
     let mut left = text;
-    for byte in name {
-        match left {
-            [c, rest @ ..] if u32::from(*c) == u32::from(*byte) => left = rest,
-            _ => return false,
+    for byte in word {
+        let [c, rest @ ..] = left else { return false };
+        if u32::from(*c) != u32::from(*byte) {
+            return false;
         }
+        left = rest;
     }
     true
 }

@@ -1,11 +1,10 @@
 -- Identifiers: the Haskell 98 Report, section 2.4. A name is a whole run: none ends where it could go on.
-use Rattle.std.specs.Prelude.{ℕ, Bool, if◌then◌else◌, List, [], ◌∷◌, Option, Some, None}
+use Rattle.std.specs.Prelude.{ℕ, Bool, ◌&&◌, ◌==◌, length, if◌then◌else◌, List, [], ◌∷◌, Option, Some, None}
 use Rattle.std.specs.List.{list_any}
-use Rattle.std.specs.Str.{bytes_eq}
 use lib.Chars.{codes}
 use Rattle.hr_base.specs.declared.lexeme.Class.{Class}
 use Rattle.hr_rules.specs.Letters.{is_in_name}
-use Rattle.hr_rules.specs.Runs.{is_run}
+use Rattle.hr_rules.specs.Runs.{is_run, begins_word}
 
 abbrev pub reserved_words : List (List ℕ)
 reserved_words =
@@ -14,8 +13,12 @@ reserved_words =
     ∷ codes "let" ∷ codes "module" ∷ codes "newtype" ∷ codes "of" ∷ codes "then" ∷ codes "type" ∷ codes "where"
     ∷ codes "_" ∷ []
 
+-- the text is the word
+abbrev pub is_spelled : List ℕ → List ℕ → Bool
+is_spelled word text = length text == length word && begins_word word text
+
 abbrev pub is_one_of : List (List ℕ) → List ℕ → Bool
-is_one_of table text = list_any (λ word. bytes_eq text word) table
+is_one_of table text = list_any (λ word. is_spelled word text) table
 
 unfoldable pub is_reserved_word : List ℕ → Bool
 is_reserved_word text = is_one_of reserved_words text

@@ -1,6 +1,6 @@
 -- Operators: the Haskell 98 Report, section 2.4. An operator is a whole run of symbols: none ends where
 -- it could go on. A run of two dashes or more is none, since a comment begins with it.
-use Rattle.std.specs.Prelude.{ℕ, Bool, true, false, not, ◌&&◌, ◌==◌, if◌then◌else◌, List, [], ◌∷◌, Option, Some, None}
+use Rattle.std.specs.Prelude.{ℕ, Bool, true, false, not, ◌&&◌, ◌==◌, nat_lt, length, if◌then◌else◌, List, [], ◌∷◌, Option, Some, None}
 use Rattle.std.specs.List.{list_all}
 use lib.Chars.{codes}
 use Rattle.hr_base.specs.declared.lexeme.Class.{Class}
@@ -21,9 +21,7 @@ is_dash c = c == 45
 
 -- two dashes or more
 abbrev pub is_dashes : List ℕ → Bool
-is_dashes [] = false
-is_dashes (_ ∷ []) = false
-is_dashes (a ∷ b ∷ rest) = is_dash a && list_all is_dash (b ∷ rest)
+is_dashes run = nat_lt 1 (length run) && list_all is_dash run
 
 -- of a run of symbols: one that begins with a colon is a constructor
 abbrev pub run_class : List ℕ → Class

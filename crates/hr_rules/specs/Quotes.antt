@@ -53,7 +53,7 @@ is_code n = nat_lt n 0xD800 || (nat_lt 0xDFFF n && nat_le n 0x10FFFF)
 abbrev pub code_len : ℕ → List ℕ → Option ℕ
 code_len base text =
     let n = prefix_len (λ c. is_digit c base) text in
-    if nat_lt 0 n && is_code (value_of base (take n text)) then Some n else None
+    if n == 0 then None else (if is_code (value_of base (take n text)) then Some n else None)
 
 -- the length of a control's escape, behind its `^`
 abbrev pub control_len : List ℕ → Option ℕ
@@ -74,7 +74,7 @@ escape_len (c ∷ rest) =
 abbrev pub gap_len : List ℕ → Option ℕ
 gap_len text =
     let n = prefix_len is_blank text in
-    if nat_lt 0 n && begins_with backslash (drop n text) then Some (n + 1) else None
+    if n == 0 then None else (if begins_with backslash (drop n text) then Some (n + 1) else None)
 
 -- the same for what a string may hold behind a backslash
 abbrev pub string_escape_len : List ℕ → Option ℕ

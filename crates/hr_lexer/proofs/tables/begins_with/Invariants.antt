@@ -1,6 +1,0 @@
-use Rattle.std.proofs.Common.{◌≡◌, drop}
-use Rattle.hr_rules.specs.Runs.{begins_word}
-use Rattle.hr_lexer.proofs.tables.begins_with.Given as goal
-
-abbrev pub invariant-loop-byte : goal.invariant-loop-byte
-invariant-loop-byte l = begins_word (drop l.byte-index l.name) l.left ≡ begins_word l.name l.text
