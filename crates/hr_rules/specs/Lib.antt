@@ -1,2 +1,11 @@
+pub mod Comments
+pub mod Letters
+pub mod Lexemes
 pub mod Lexing
+pub mod Names
+pub mod Numbers
+pub mod Operators
 pub mod Positions
+pub mod Qualified
+pub mod Quotes
+pub mod Runs

@@ -2,8 +2,10 @@
 //! items, and the text that items make.
 #![tactic(auto)]
 
+mod character;
 mod items;
 mod laws;
 
+pub use character::{Kind, continues_name, is_blank_char, is_in_name, is_newline, is_symbol, kind_of};
 pub use items::join;
-pub use laws::{lexings_join, one_lexing};
+pub use laws::{lexings_join, one_lexing, one_reading, readings_join, rules_keep_apart};
