@@ -11,7 +11,7 @@ abbrev pub decreases-group : goal.decreases-group
 decreases-group l = 3 * l.depth
 
 abbrev pub invariant-expression-atoms : goal.invariant-expression-atoms
-invariant-expression-atoms l = length l.rest ≤ length l.fn.rest.now
+invariant-expression-atoms l = length l.rest ≤ length l.fn.rest
 
 abbrev pub decreases-expression-atoms : goal.decreases-expression-atoms
 decreases-expression-atoms l = length l.rest

@@ -1,0 +1,144 @@
+ghost use Rattle.std.specs.Prelude.{◌≡◌, ◌==◌, ◌&&◌, not, map, chars, IfOk, Some, None, nat_le};
+ghost use Rattle.std.specs.List.{list_all, list_any, before_first, after_first};
+ghost use Rattle.std.specs.Str.{bytes_eq};
+ghost use Rattle.std.specs.String.{string_bytes};
+ghost use Rattle.std.specs.Option.{option_map};
+ghost use Rattle.hr_rules.specs.Letters.{is_in_name, is_blank};
+ghost use Rattle.hare.specs.Words as spec;
+
+use hr_base::Pos;
+use hr_rules::{Kind, is_blank_char, is_in_name, kind_of};
+
+/// A renaming in a file: the module and the position of a name, and the new name.
+#[derive(Clone, Copy, Debug)]
+pub struct Renaming<'a> {
+    pub module: &'a str,
+    pub pos: Pos,
+    pub new: &'a str,
+    pub file: &'a str,
+}
+
+/// The command that the words are: `rename MODULE LINE:COLUMN NAME in FILE`, where the module is a
+/// conid, line and column are numbers from 1 to 4,294,967,295 without leading zeros, and the name
+/// is one character or more, none of them a blank.
+pub fn renaming(words: &[String]) -> Option<Renaming<'_>> {
+    match words {
+        [verb, module, place, new, keyword, file] => {
+            let pos = pos_of(place.as_bytes())?;
+            if verb.as_str() == "rename"
+                && is_conid(module.as_str())
+                && is_word(new.as_str())
+                && keyword.as_str() == "in"
+            {
+                Some(Renaming {
+                    module: module.as_str(),
+                    pos,
+                    new: new.as_str(),
+                    file: file.as_str(),
+                })
+            } else {
+                None
+            }
+        }
+        _ => None,
+    }
+}
+
+/// Whether the word is a conid.
+fn is_conid(word: &str) -> bool
+    ensures { result ≡ spec.is_conid word.now }
+{
+    begins_large(word) && all_in_name(word)
+}
+
+fn begins_large(word: &str) -> bool
+    ensures { result ≡ spec.begins_large (chars word.now) }
+{
+    match word.chars().next() {
+        Some(first) => kind_of(first) == Kind::Large,
+        None => false,
+    }
+}
+
+fn all_in_name(word: &str) -> bool
+    ensures { result ≡ list_all is_in_name (chars word.now) }
+{
+    word.chars().all(is_in_name)
+}
+
+/// Whether the word has a character, and none that is blank.
+fn is_word(word: &str) -> bool
+    ensures { result ≡ spec.is_word word.now }
+{
+    !word.is_empty() && !has_blank(word)
+}
+
+fn has_blank(word: &str) -> bool
+    ensures { result ≡ list_any is_blank (chars word.now) }
+{
+    word.chars().any(is_blank_char)
+}
+
+/// The position that the text is, as `LINE:COLUMN`.
+fn pos_of(text: &[u8]) -> Option<Pos>
+    ensures { result ≡ (if spec.is_pos text.now then Some (spec.pos_of text.now) else None) }
+{
+    let colon = text.iter().position(|c| *c == b':').unwrap_or(text.len());
+    let (line, rest) = text.split_at(colon);
+    let column = match rest {
+        [_, column @ ..] => column,
+        [] => rest,
+    };
+    Some(Pos {
+        line: number(line)?,
+        col: number(column)?,
+    })
+}
+
+/// The decimal number that the text is.
+fn number(text: &[u8]) -> Option<u32>
+    ensures { result ≡ (if spec.is_number text.now then Some (spec.value text.now) else None) }
+{
+    if !begins_number(text) || !all_digits(text) {
+        return None;
+    }
+    value(text)
+}
+
+fn begins_number(text: &[u8]) -> bool
+    ensures { result ≡ spec.begins_number text.now }
+{
+    match text {
+        [first, ..] => is_digit(*first) && *first != b'0',
+        [] => false,
+    }
+}
+
+fn all_digits(text: &[u8]) -> bool
+    ensures { result ≡ list_all spec.is_digit text.now }
+{
+    text.iter().all(|c| is_digit(*c))
+}
+
+fn is_digit(c: u8) -> bool
+    ensures { result ≡ spec.is_digit c }
+{
+    b'0' <= c && c <= b'9'
+}
+
+const LIMIT: u64 = 4_294_967_295;
+
+/// The value of decimal digits, if 32 bits hold it.
+#[tactic(auto, unfolding(crate::specs::Words::value))]
+fn value(digits: &[u8]) -> Option<u32>
+    ensures { result ≡ (if nat_le (spec.value digits.now) 4294967295 then Some (spec.value digits.now) else None) }
+{
+    let mut value = 0u64;
+    for c in digits {
+        value = value * 10 + u64::from(c.saturating_sub(b'0'));
+        if value > LIMIT {
+            return None;
+        }
+    }
+    Some(value as u32)
+}
