@@ -1,6 +1,6 @@
 -- The words of a command line that are one command: `rename MODULE LINE:COLUMN NAME in FILE`.
-use Rattle.std.specs.Prelude.{ℕ, ◌+◌, ◌-◌, ◌*◌, Bool, true, false, not, ◌&&◌, ◌==◌, nat_le, List, [], ◌∷◌, fold, Option, Some, None, if◌then◌else◌, codes, chars}
-use Rattle.std.specs.List.{list_all, list_any, before_first, after_first}
+use Rattle.std.specs.Prelude.{ℕ, ◌+◌, ◌-◌, ◌*◌, Bool, true, false, not, ◌&&◌, ◌==◌, nat_le, List, [], ◌∷◌, fold, Option, Some, None, if◌then◌else◌, codes, chars, position, take, drop}
+use Rattle.std.specs.List.{list_all, list_any}
 use Rattle.std.specs.Str.{bytes_eq}
 use Rattle.hr_base.specs.declared.place.Pos.{Pos}
 use Rattle.hr_rules.specs.declared.character.Kind.{Kind}
@@ -25,22 +25,39 @@ abbrev pub begins_number : List ℕ → Bool
 begins_number [] = false
 begins_number (c ∷ cs) = is_digit c && not (c == 48)
 
--- a decimal number from 1 to 4,294,967,295 without leading zeros
 abbrev pub is_number : List ℕ → Bool
 is_number text = (begins_number text && list_all is_digit text) && nat_le (value text) 4294967295
 
--- the line and the column on the two sides of the first colon (58)
+-- the decimal number from 1 to 4,294,967,295 that the text is, without leading zeros
+unfoldable pub number_of : List ℕ → Option ℕ
+number_of text = if is_number text then Some (value text) else None
+
+-- where the first colon (58) stands
+abbrev pub colon_of : List ℕ → Option ℕ
+colon_of text = position (λ c. c == 58) text
+
+abbrev pub before_place : Option ℕ → List ℕ → List ℕ
+before_place None text = text
+before_place (Some place) text = take place text
+
+abbrev pub behind_place : Option ℕ → List ℕ → List ℕ
+behind_place None text = []
+behind_place (Some place) text = drop (place + 1) text
+
+-- the line and the column on the two sides of it
 abbrev pub line_of : List ℕ → List ℕ
-line_of text = before_first (λ c. c == 58) text
+line_of text = before_place (colon_of text) text
 
 abbrev pub column_of : List ℕ → List ℕ
-column_of text = after_first (λ c. c == 58) text
+column_of text = behind_place (colon_of text) text
 
-abbrev pub is_pos : List ℕ → Bool
-is_pos text = is_number (line_of text) && is_number (column_of text)
+abbrev pub pos_from : Option ℕ → Option ℕ → Option Pos
+pos_from (Some line) (Some col) = Some (record { line = line; col = col })
+pos_from _ _ = None
 
-abbrev pub pos_of : List ℕ → Pos
-pos_of text = record { line = value (line_of text); col = value (column_of text) }
+-- the position that the text is
+unfoldable pub pos_of : List ℕ → Option Pos
+pos_of text = pos_from (number_of (line_of text)) (number_of (column_of text))
 
 abbrev pub is_large_kind : Kind → Bool
 is_large_kind Kind.Large = true
@@ -51,7 +68,7 @@ begins_large [] = false
 begins_large (c ∷ cs) = is_large_kind (kind_of c)
 
 -- a large letter first, and nothing but what may stand in names
-abbrev pub is_conid : List ℕ → Bool
+unfoldable pub is_conid : List ℕ → Bool
 is_conid text = begins_large (chars text) && list_all is_in_name (chars text)
 
 abbrev pub is_some_text : List ℕ → Bool
@@ -59,13 +76,20 @@ is_some_text [] = false
 is_some_text (c ∷ cs) = true
 
 -- one character or more, none of them a blank
-abbrev pub is_word : List ℕ → Bool
+unfoldable pub is_word : List ℕ → Bool
 is_word text = is_some_text text && not (list_any is_blank (chars text))
 
+abbrev pub renaming_at : Option Pos → List ℕ → List ℕ → List ℕ → Option Renaming
+renaming_at None module_name new_name file = None
+renaming_at (Some pos) module_name new_name file =
+    Some (record { module_name = module_name; pos = pos; new_name = new_name; file = file })
+
+abbrev pub are_words : List ℕ → List ℕ → List ℕ → List ℕ → Bool
+are_words verb module_name new_name keyword =
+    (bytes_eq verb (codes "rename") && is_conid module_name) && (is_word new_name && bytes_eq keyword (codes "in"))
+
 -- the command that the words are, if they are one
-abbrev pub renaming_of : List (List ℕ) → Option Renaming
+unfoldable pub renaming_of : List (List ℕ) → Option Renaming
 renaming_of (verb ∷ module_name ∷ place ∷ new_name ∷ keyword ∷ file ∷ []) =
-    if (bytes_eq verb (codes "rename") && is_conid module_name) && ((is_pos place && is_word new_name) && bytes_eq keyword (codes "in"))
-    then Some (record { module_name = module_name; pos = pos_of place; new_name = new_name; file = file })
-    else None
+    if are_words verb module_name new_name keyword then renaming_at (pos_of place) module_name new_name file else None
 renaming_of _ = None

@@ -1,30 +1,46 @@
+ghost use Rattle.std.specs.Prelude.{◌≡◌, IfOk};
+ghost use Rattle.std.specs.String.{string_bytes};
+ghost use Rattle.hare.specs.Report as spec;
+
 use hr_base::{Place, Text};
 use hr_plain::{Sought, Why};
 use std::alloc::{AllocError, Global};
 
 /// Words that are no command.
-pub fn bad_words(alloc: Global) -> Result<String, AllocError> {
+pub fn bad_words(alloc: Global) -> Result<String, AllocError>
+    ensures { IfOk result (λ text. string_bytes text ≡ spec.bad_words) }
+{
     String::from_str(alloc, "words: refused\n")
 }
 
 /// A file that is not of the form that is read so far.
-pub fn not_accepted(alloc: Global, file: &str) -> Result<String, AllocError> {
+pub fn not_accepted(alloc: Global, file: &str) -> Result<String, AllocError>
+    ensures { IfOk result (λ text. string_bytes text ≡ spec.not_accepted file.now) }
+{
     format!(in alloc; "not accepted: 25 {file}\n")
 }
 
-pub fn read_fault(alloc: Global, file: &str) -> Result<String, AllocError> {
+pub fn read_fault(alloc: Global, file: &str) -> Result<String, AllocError>
+    ensures { IfOk result (λ text. string_bytes text ≡ spec.read_fault file.now) }
+{
     format!(in alloc; "read fault: {file}\n")
 }
 
-pub fn over_limit(alloc: Global, file: &str) -> Result<String, AllocError> {
+pub fn over_limit(alloc: Global, file: &str) -> Result<String, AllocError>
+    ensures { IfOk result (λ text. string_bytes text ≡ spec.over_limit file.now) }
+{
     format!(in alloc; "over limit: {file}\n")
 }
 
-pub fn done(alloc: Global, file: &str) -> Result<String, AllocError> {
+pub fn done(alloc: Global, file: &str) -> Result<String, AllocError>
+    ensures { IfOk result (λ text. string_bytes text ≡ spec.done file.now) }
+{
     format!(in alloc; "1 rename: done\nchanged 1\n{file}\n")
 }
 
-pub fn write_fault(alloc: Global, file: &str) -> Result<String, AllocError> {
+pub fn write_fault(alloc: Global, file: &str) -> Result<String, AllocError>
+    ensures { IfOk result (λ text. string_bytes text ≡ spec.write_fault file.now) }
+{
     format!(in alloc; "1 rename: done\nwrite fault: {file}\n")
 }
 

@@ -1,10 +1,12 @@
-ghost use Rattle.std.specs.Prelude.{◌≡◌, map};
+ghost use Rattle.std.specs.Prelude.{◌≡◌, ℕ, List, map, MatchResult};
 ghost use Rattle.std.specs.String.{string_bytes};
 ghost use Rattle.hr_shelf.specs.Outside.{IsReady};
+ghost use Rattle.hare.specs.Runs.{AreGood, Ends, Reported, outside};
+ghost use Rattle.hare.specs.Shown.{shown};
 
 use crate::report;
 use crate::status::Status;
-use crate::words::{Renaming, renaming};
+use crate::words::{Renaming, renaming_of};
 use hr_base::Text;
 use hr_plain::{LoadError, MODULE_LIMIT, Why, load, rename};
 use hr_shelf::{ReadError, Shelf, Sink};
@@ -18,8 +20,10 @@ pub fn refactor<S: Shelf, K: Sink>(
     words: &[String],
     shelf: &mut S,
     out: &mut K,
-) -> Status {
-    let Some(command) = renaming(words) else {
+) -> Status
+    ensures { Ends (map string_bytes words.now) (outside (S.told shelf.old) (S.read_faults shelf.old) (S.replace_faults shelf.old) (K.written out.old) (K.faults out.old)) (outside (S.told shelf.new) (S.read_faults shelf.new) (S.replace_faults shelf.new) (K.written out.new) (K.faults out.new)) result }
+{
+    let Some(command) = renaming_of(words) else {
         return tell(out, report::bad_words(alloc), Status::BadWords);
     };
     let file = command.file;
@@ -50,9 +54,10 @@ fn work<S: Shelf, K: Sink>(
     out: &mut K,
 ) -> Status
     requires { IsReady (S.ready shelf.old) command.file.now }
+    ensures { (words : List (List ℕ)) (reads : ℕ) → AreGood words (shown command.entry) → Ends words (outside (S.told shelf.old) reads (S.replace_faults shelf.old) (K.written out.old) (K.faults out.old)) (outside (S.told shelf.new) (S.read_faults shelf.new) (S.replace_faults shelf.new) (K.written out.new) (K.faults out.new)) result }
 {
-    match step(alloc, command, bytes) {
-        Step::Renamed(new) => finish(alloc, command.file, new, shelf, out),
+    match stepped(alloc, command, bytes) {
+        Step::Renamed(new) => finish(alloc, command, new, shelf, out),
         Step::NotAccepted => tell(
             out,
             report::not_accepted(alloc, command.file),
@@ -64,7 +69,7 @@ fn work<S: Shelf, K: Sink>(
 }
 
 /// The renaming, in memory.
-fn step(alloc: Global, command: Renaming<'_>, bytes: &[u8]) -> Step {
+fn stepped(alloc: Global, command: Renaming<'_>, bytes: &[u8]) -> Step {
     match load(alloc, bytes) {
         Ok(tree) => renamed(alloc, command, &tree),
         Err(LoadError::NotBuilt) => Step::NotAccepted,
@@ -89,13 +94,15 @@ fn renamed(alloc: Global, command: Renaming<'_>, tree: &Module) -> Step {
 /// Replaces the file and reports. Nothing here takes memory once the reports are made.
 fn finish<S: Shelf, K: Sink>(
     alloc: Global,
-    file: &str,
+    command: Renaming<'_>,
     new: Text,
     shelf: &mut S,
     out: &mut K,
 ) -> Status
-    requires { IsReady (S.ready shelf.old) file.now }
+    requires { IsReady (S.ready shelf.old) command.file.now }
+    ensures { (words : List (List ℕ)) (reads : ℕ) → AreGood words (shown command.entry) → Ends words (outside (S.told shelf.old) reads (S.replace_faults shelf.old) (K.written out.old) (K.faults out.old)) (outside (S.told shelf.new) (S.read_faults shelf.new) (S.replace_faults shelf.new) (K.written out.new) (K.faults out.new)) result }
 {
+    let file = command.file;
     let Ok(done) = report::done(alloc, file) else {
         return Status::Memory;
     };
@@ -111,7 +118,9 @@ fn finish<S: Shelf, K: Sink>(
 
 /// Writes the report in one piece. The status stands, unless there was no memory for the report or
 /// it was not written.
-fn tell<K: Sink>(out: &mut K, report: Result<String, AllocError>, status: Status) -> Status {
+fn tell<K: Sink>(out: &mut K, report: Result<String, AllocError>, status: Status) -> Status
+    ensures { MatchResult report (λ text. Reported (K.written out.old) (K.written out.new) (K.faults out.old) (K.faults out.new) (string_bytes text) status result) (λ _. (result ≡ Status.Memory) × (K.written out.new ≡ K.written out.old)) }
+{
     match report {
         Ok(text) => match out.write(text.as_bytes()) {
             Ok(()) => status,
