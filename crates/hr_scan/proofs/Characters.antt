@@ -22,7 +22,7 @@ abbrev character : ℕ → Character
 character c = record { code = c; len = length (encode_utf8 c) }
 
 -- a byte of a character behind its first one
-abbrev Continues : ℕ → Type 0
+abbrev pub Continues : ℕ → Type 0
 Continues b = (128 ≤ b) × (b < 192)
 
 -- how a character is spelled: by itself, or by a first byte that says how many follow
@@ -219,7 +219,7 @@ all_at (x ∷ xs) zero a h = a.0
 all_at (x ∷ xs) (suc k) a h = all_at xs k a.1 (omega arith)
 
 -- behind its first byte a character has continuing bytes alone
-continues_at : (c k : ℕ) → 1 ≤ k → k < length (encode_utf8 c) → Continues (get_or (encode_utf8 c) k 0)
+pub continues_at : (c k : ℕ) → 1 ≤ k → k < length (encode_utf8 c) → Continues (get_or (encode_utf8 c) k 0)
 continues_at c k l h = by (spelling c)
   where
     at : (k first : ℕ) (others : List ℕ) → AllByRecursion Continues others → 1 ≤ k → k < length (first ∷ others) → Continues (get_or (first ∷ others) k 0)
