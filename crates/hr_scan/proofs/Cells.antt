@@ -4,7 +4,7 @@
 --     cells-append, cells-append_ascii      a text may be cut where a character may begin, and behind an ASCII byte
 --     cells-encode, cells-ascii      the characters of a text in UTF-8
 --     cells-one      one cell by itself
-use Rattle.std.proofs.Common.{◌≡◌, ℕ, zero, suc, ◌+◌, ◌-◌, ◌<◌, ◌≤◌, List, [], ◌∷◌, ◌++◌, length, drop, Option, Some, None, refl, sym, ap, ap₂, ◌∙◌, arith, length-drop, length-append, length-take, append_assoc, drop_at, drop_of_length-le, subst, take}
+use Rattle.std.proofs.Common.{◌≡◌, ℕ, zero, suc, ◌-◌, ◌<◌, ◌≤◌, List, [], ◌∷◌, ◌++◌, length, drop, Option, Some, None, refl, sym, ap, ap₂, ◌∙◌, arith, length-drop, length-append, length-take, append_assoc, drop_at, drop_of_length-le, subst, take}
 use Rattle.std.proofs.lemmas.List.{drop-append-le}
 use Rattle.std.specs.Char.{IsScalar, encode_utf8}
 use Rattle.std.specs.Str.{IsCharBoundary}

@@ -4,7 +4,7 @@
 --     column_at-seam      the column of a place where a character may begin is the one behind the text before it
 --     column_at-front      the columns of a line are those of its own bytes
 --     end_column-plain, column_at-plain      in ASCII without tabs a column counts the bytes
-use Rattle.std.proofs.Common.{◌≡◌, ℕ, zero, suc, ◌+◌, ◌-◌, ◌*◌, ◌/◌, ◌<◌, ◌≤◌, ◌==◌, Bool, cond, ◌≢◌, List, [], ◌∷◌, ◌++◌, length, drop, take, get_or, replicate, Option, Some, None, refl, sym, ap, ap₂, ◌∙◌, subst, arith, length-append, length-drop, append_assoc, append-nil, ne_eqb}
+use Rattle.std.proofs.Common.{◌≡◌, ℕ, zero, suc, ◌+◌, ◌*◌, ◌/◌, ◌<◌, ◌≤◌, Bool, cond, ◌≢◌, List, [], ◌∷◌, ◌++◌, length, drop, get_or, replicate, Option, Some, refl, sym, ap, ap₂, ◌∙◌, arith, length-append, length-drop, append_assoc, append-nil, ne_eqb}
 use Rattle.std.specs.List.{fold, AllByRecursion}
 use Rattle.std.specs.Char.{IsScalar, encode_utf8}
 use Rattle.std.specs.Str.{IsCharBoundary}
@@ -101,7 +101,7 @@ plain_from [] c all = omega arith
 plain_from (b ∷ rest) c all =
     let no_mark : b ≢ byte_order_mark = λ e. omega (arith, all.0.0) in
     let next : next_column c (Some (record { code = b; len = 1 })) ≡ c + 1 =
-        ap₂ (λ (t m : Bool). cond t ((c + 7) / 8 * 8 + 1) (cond m c (c + 1))) (ne_eqb b tab all.0.1) (ne_eqb b byte_order_mark no_mark) in
+    ap₂ (λ (t m : Bool). cond t ((c + 7) / 8 * 8 + 1) (cond m c (c + 1))) (ne_eqb b tab all.0.1) (ne_eqb b byte_order_mark no_mark) in
     ap (fold next_column c) (cells-ascii b rest all.0.0)
     ∙ ap (λ k. fold next_column k (cells rest)) next
     ∙ plain_from rest (c + 1) all.1 ∙ omega arith

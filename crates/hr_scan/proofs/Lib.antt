@@ -6,3 +6,4 @@ pub mod LineIndex
 pub mod LineStarts
 pub mod PositionColumns
 pub mod Positions
+pub mod Spelling

@@ -60,5 +60,5 @@ at_index bytes place k h at before =
     let starts = starts_of_lines bytes in
     let next : suc k ≡ k + 1 = omega arith in
     let counted : line_at bytes place ≡ k + 1 =
-        count_rising place 0 starts k (omega arith, starts_rise 0 bytes) h at (λ some. subst (λ i. place < get_or starts i 0) (sym next) (before (omega arith))) ∙ next in
+    count_rising place 0 starts k (omega arith, starts_rise 0 bytes) h at (λ some. subst (λ i. place < get_or starts i 0) (sym next) (before (omega arith))) ∙ next in
     (counted, ap (λ n. get_or starts n 0) (omega arith))

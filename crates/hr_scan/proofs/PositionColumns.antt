@@ -4,15 +4,14 @@
 --     pos_at-zero, pos_at-newline, pos_at-cell      the first position; behind a newline; behind another cell
 --     column_in-plain      in ASCII without tabs a column counts the bytes of the line
 --     column_in-line      the columns of a line's own bytes
-use Rattle.std.proofs.Common.{◌≡◌, ℕ, zero, suc, ◌+◌, ◌-◌, ◌<◌, ◌≤◌, ◌⊎◌, Bool, true, false, cond, List, [], ◌∷◌, ◌++◌, length, drop, take, get_or, Option, Some, None, refl, sym, ap, ap₂, ◌∙◌, subst, arith, length-append, length-drop, length-take, take-append-drop, drop-drop, take-add, get_or-drop, drop_of_length-le, take-suc}
+use Rattle.std.proofs.Common.{◌≡◌, ℕ, zero, suc, ◌+◌, ◌-◌, ◌<◌, ◌≤◌, true, false, List, [], ◌∷◌, ◌++◌, length, drop, take, get_or, sym, ap, ap₂, ◌∙◌, arith, length-drop, length-take, take-append-drop, drop-drop, take-add, get_or-drop, take-suc}
 use Rattle.std.specs.List.{fold, AllByRecursion}
 use Rattle.std.specs.Str.{IsCharBoundary}
-use Rattle.hr_scan.specs.declared.character.Character.{Character}
 use Rattle.hr_scan.specs.Characters.{char_at, cell_len, cells}
 use Rattle.hr_scan.specs.Columns.{next_column, columns_of, end_column, column_at}
 use Rattle.hr_scan.specs.Lines.{ends_newline}
 use Rattle.hr_scan.specs.Positions.{line_at, start_at, column_in, pos_at}
-use Rattle.hr_scan.proofs.ColumnLaws.{column_at-seam, column_at-plain, column_at-front, column_at-ascii, end_column-append, end_column-plain, IsPlain}
+use Rattle.hr_scan.proofs.ColumnLaws.{column_at-seam, column_at-plain, column_at-front, column_at-ascii, end_column-append, IsPlain}
 use Rattle.hr_scan.proofs.Positions.{line_at-zero, start_at-zero, line_at-add, start_at-same, start_at-later, start_at-le, line_at-newline, line_at-cell}
 use Rattle.hr_scan.proofs.Cells.{cells-one}
 
@@ -30,9 +29,10 @@ split_line : (bytes : List ℕ) (place : ℕ) → place ≤ length bytes
     → (line_before bytes place ++ drop place bytes ≡ drop (start_at bytes place) bytes) × (length (line_before bytes place) ≡ place - start_at bytes place)
 split_line bytes place h =
     let start = start_at bytes place in
-    let low = start_at-le bytes place in
-    (ap (λ l. line_before bytes place ++ l) (ap (λ n. drop n bytes) (omega arith) ∙ sym (drop-drop (place - start) start bytes)) ∙ take-append-drop (place - start) (drop start bytes),
-    omega (arith, length-take (place - start) (drop start bytes), length-drop start bytes))
+    let low = start_at-le bytes place in (
+      ap (λ l. line_before bytes place ++ l) (ap (λ n. drop n bytes) (omega arith) ∙ sym (drop-drop (place - start) start bytes)) ∙ take-append-drop (place - start) (drop start bytes),
+      omega (arith, length-take (place - start) (drop start bytes), length-drop start bytes),
+    )
 
 pub column_in-seam : (bytes : List ℕ) (place : ℕ) → IsCharBoundary bytes place → column_in bytes place ≡ end_column (line_before bytes place)
 column_in-seam bytes place b =
@@ -52,10 +52,10 @@ column_in-same bytes place n b e h =
     let low = start_at-le bytes place in
     let same = start_at-same bytes place n h in
     let grown : line_before bytes (place + n) ≡ line_before bytes place ++ take n (drop place bytes) =
-        ap (λ s. take ((place + n) - s) (drop s bytes)) same
-        ∙ ap (λ k. take k (drop start bytes)) (omega arith)
-        ∙ take-add (place - start) n (drop start bytes)
-        ∙ ap (λ l. line_before bytes place ++ take n l) (drop-drop (place - start) start bytes ∙ ap (λ k. drop k bytes) (omega arith)) in
+    ap (λ s. take ((place + n) - s) (drop s bytes)) same
+    ∙ ap (λ k. take k (drop start bytes)) (omega arith)
+    ∙ take-add (place - start) n (drop start bytes)
+    ∙ ap (λ l. line_before bytes place ++ take n l) (drop-drop (place - start) start bytes ∙ ap (λ k. drop k bytes) (omega arith)) in
     column_in-seam bytes (place + n) e
     ∙ ap end_column grown
     ∙ end_column-append (line_before bytes place) (take n (drop place bytes)) (take_boundary n (drop place bytes) (boundary-drop bytes place b))
@@ -79,7 +79,7 @@ pos_at-newline bytes place e =
     let one = line_at-newline (drop place bytes) e in
     let line : line_at bytes (place + 1) ≡ line_at bytes place + 1 = omega (arith, line_at-add bytes place 1, one.0) in
     let column : column_in bytes (place + 1) ≡ 1 =
-        column_in-later bytes place 1 (omega (arith, one.0)) ∙ ap (λ s. column_at (drop s (drop place bytes)) (1 - s)) one.1 ∙ first_place (drop 1 (drop place bytes)) in
+    column_in-later bytes place 1 (omega (arith, one.0)) ∙ ap (λ s. column_at (drop s (drop place bytes)) (1 - s)) one.1 ∙ first_place (drop 1 (drop place bytes)) in
     λ i. (line i, column i)
 
 -- in ASCII without tabs a column counts the bytes
@@ -98,7 +98,7 @@ pos_at-cell bytes place h e b f =
     let one = line_at-cell left e in
     let line : line_at bytes (place + n) ≡ line_at bytes place = omega (arith, line_at-add bytes place n, one) in
     let column : column_in bytes (place + n) ≡ next_column (column_in bytes place) (char_at left) =
-        column_in-same bytes place n b f one ∙ ap (fold next_column (column_in bytes place)) (cells-one left (omega (arith, length-drop place bytes))) in
+    column_in-same bytes place n b f one ∙ ap (fold next_column (column_in bytes place)) (cells-one left (omega (arith, length-drop place bytes))) in
     λ i. (line i, column i)
 
 -- the line of a place up to another place behind it
@@ -119,7 +119,7 @@ column_in-last bytes place h =
     let end = length bytes in
     ap (λ l. column_at l (place - start)) (sym (line_to-parts bytes place end h))
     ∙ column_at-front (line_to bytes place end) (drop end bytes) (place - start) (boundary-drop bytes end (omega arith, λ l. absurd (omega arith)))
-        (omega (arith, length-take (end - start) (drop start bytes), length-drop start bytes))
+    (omega (arith, length-take (end - start) (drop start bytes), length-drop start bytes))
 
 -- and where it ends with a byte of ASCII, as that of a newline
 pub column_in-line : (bytes : List ℕ) (place end : ℕ) → place < end → end ≤ length bytes → get_or bytes (end - 1) 0 < 128
