@@ -9,7 +9,7 @@ use Rattle.hr_scan.proofs.LineStarts.{start_behind}
 use Rattle.hr_scan.proofs.Positions.{count_first}
 
 -- the numbers rise, from this one on
-abbrev Rising : ℕ → List ℕ → Type 0
+abbrev pub Rising : ℕ → List ℕ → Type 0
 Rising low [] = Unit {0}
 Rising low (x ∷ xs) = (low ≤ x) × Rising (x + 1) xs
 
@@ -17,7 +17,7 @@ lower : (low high : ℕ) (xs : List ℕ) → low ≤ high → Rising high xs →
 lower low high [] h r = tt
 lower low high (x ∷ xs) h r = (let l = r.0 in omega arith, r.1)
 
-starts_rise : (from : ℕ) (bytes : List ℕ) → Rising (from + 1) (behind_newlines from bytes)
+pub starts_rise : (from : ℕ) (bytes : List ℕ) → Rising (from + 1) (behind_newlines from bytes)
 starts_rise from [] = tt
 starts_rise from (b ∷ rest) =
     let more = starts_rise (from + 1) rest in
@@ -32,7 +32,7 @@ none_high place low (x ∷ xs) h r =
     let l = r.0 in
     count_first (λ s. nat_le s place) x xs ∙ ap₂ (λ (t : Bool) (n : ℕ). cond t 1 0 + n) (lt-leb x place (omega arith)) (none_high place (x + 1) xs (omega arith) r.1)
 
-rises_to : (low : ℕ) (xs : List ℕ) (k : ℕ) → Rising low xs → k < length xs → low ≤ get_or xs k 0
+pub rises_to : (low : ℕ) (xs : List ℕ) (k : ℕ) → Rising low xs → k < length xs → low ≤ get_or xs k 0
 rises_to low [] k r h = absurd (omega arith)
 rises_to low (x ∷ xs) zero r h = r.0
 rises_to low (x ∷ xs) (suc k) r h = let l = r.0 in let m = rises_to (x + 1) xs k r.1 (omega arith) in omega arith

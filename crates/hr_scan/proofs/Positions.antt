@@ -193,7 +193,7 @@ line_at-newline (b ∷ rest) e = (
     none (b ∷ rest) = refl
 
 -- ---- no newline ends with a byte beyond ASCII
-high_byte : (b : ℕ) (rest : List ℕ) → 128 ≤ b → ends_newline (b ∷ rest) ≡ false
+pub high_byte : (b : ℕ) (rest : List ℕ) → 128 ≤ b → ends_newline (b ∷ rest) ≡ false
 high_byte b rest h =
     λ i. (ne_eqb b linefeed (λ e. omega arith) i || ne_eqb b form_feed (λ e. omega arith) i) || (ne_eqb b carriage_return (λ e. omega arith) i && not (begins_with_linefeed rest))
 
