@@ -19,7 +19,7 @@ use Rattle.hr_scan.proofs.Spelling.{Spelling, alone, led, spelling, lead, contin
 use Rattle.hr_scan.specs.Characters.{announced_len, spelled, char_at, Begins}
 
 -- the character that c stands for
-abbrev character : ℕ → Character
+abbrev pub character : ℕ → Character
 character c = record { code = c; len = length (encode_utf8 c) }
 
 chars-encode : (c : ℕ) → IsScalar c → chars (encode_utf8 c) ≡ c ∷ []
