@@ -4,6 +4,8 @@
 
 mod items;
 mod laws;
+mod positions;
 
 pub use items::join;
 pub use laws::{lexings_join, one_lexing};
+pub use positions::{Reached, has_newline};
