@@ -2,5 +2,7 @@
 #![tactic(auto)]
 
 mod tree;
+mod yields;
 
 pub use tree::{Equation, Exp, Module};
+pub use yields::items;
