@@ -8,7 +8,10 @@ use Rattle.hr_tree.specs.declared.tree.Exp.TheOpen.{Exp-F}
 use Rattle.hr_tree.specs.declared.tree.Exp.TheVariants.{Variable, Integer, Group, Apply}
 use Rattle.hr_tree.specs.declared.tree.Exp.TheFolds.{fold-roll-Exp}
 use Rattle.hr_tree.specs.declared.tree.Exp.TheViews.{rolls-Variable, rolls-Integer, rolls-Group, rolls-Apply}
-use Rattle.hr_tree.specs.Yields.{yield_layer, yield_of}
+use Rattle.hr_tree.specs.declared.tree.Equation.{Equation}
+use Rattle.hr_tree.specs.declared.search.Search.{Search}
+use Rattle.hr_tree.specs.Search.{passed}
+use Rattle.hr_tree.specs.Yields.{yield_layer, yield_of, equation_items}
 
 pub yield_variable : (item : Item) → yield_of (Variable item) ≡ item ∷ []
 yield_variable item = ap yield_of (sym (rolls-Variable item)) ∙ fold-roll-Exp (List Item) yield_layer (Exp-F.Variable item)
@@ -37,3 +40,15 @@ pub atoms_end : (before after : List Item) (items atoms : List Exp) (place : ℕ
 atoms_end before after items atoms place h same e =
     sym (append-nil after) ∙ ap (λ l. after ++ flat_map yield_of l) (sym (drop_of_length-le items h)) ∙ e
     ∙ ap (λ l. before ++ l) (ap (flat_map yield_of) same ∙ sym (yield_apply atoms))
+
+-- a search behind the last atom
+pub atoms_passed : (before after : Search) (items atoms : List Exp) (place : ℕ) → length items ≤ place → items ≡ atoms
+    → passed after (flat_map yield_of (drop place items)) ≡ passed before (flat_map yield_of items) → after ≡ passed before (yield_of (Apply atoms))
+atoms_passed before after items atoms place h same e =
+    ap (λ l. passed after (flat_map yield_of l)) (sym (drop_of_length-le items h)) ∙ e
+    ∙ ap (passed before) (ap (flat_map yield_of) same ∙ sym (yield_apply atoms))
+
+-- and behind the last equation
+pub equations_passed : (before after : Search) (items : List Equation) (place : ℕ) → length items ≤ place
+    → passed after (flat_map equation_items (drop place items)) ≡ passed before (flat_map equation_items items) → after ≡ passed before (flat_map equation_items items)
+equations_passed before after items place h e = ap (λ l. passed after (flat_map equation_items l)) (sym (drop_of_length-le items h)) ∙ e

@@ -1,8 +1,10 @@
 //! The lossless tree of a module: for now that of the plain form.
 #![tactic(auto)]
 
+mod search;
 mod tree;
 mod yields;
 
+pub use search::at;
 pub use tree::{Equation, Exp, Module};
 pub use yields::items;
