@@ -125,3 +125,69 @@ fn next_tab_stop(column: u64) -> u64
 {
     column.div_ceil(8).saturating_mul(8).saturating_add(1)
 }
+
+#[cfg(test)]
+mod tests {
+    use crate::{Reached, has_newline};
+    use hr_base::Pos;
+    use std::test::Fail;
+
+    #[test]
+    fn positions_follow_lines_characters_and_tab_stops(rt: HostRuntime) -> Result<(), Fail> {
+        let found = [
+            (b"".as_slice(), 1, 1),
+            (b"ab", 1, 3),
+            (b"a\t", 1, 9),
+            (b"12345678\t", 1, 17),
+            (b"\xEF\xBB\xBFab", 1, 3),
+            (b"\xC3\xA9\xFF", 1, 3),
+            (b"ab\r\nc", 2, 2),
+            (b"ab\r", 2, 1),
+            (b"\r\r\n\n\x0C", 5, 1),
+        ];
+        for (bytes, line, col) in found {
+            let reached = Reached::origin().behind(bytes);
+            assert_eq!(rt; reached, Reached { line, col });
+        }
+        Ok(())
+    }
+
+    #[test]
+    fn a_position_is_told_from_others(rt: HostRuntime) -> Result<(), Fail> {
+        let reached = Reached { line: 2, col: 5 };
+        assert!(rt; reached.is_at(Pos { line: 2, col: 5 }));
+        assert!(rt; !reached.is_at(Pos { line: 2, col: 6 }));
+        assert!(rt; !reached.is_at(Pos { line: 1, col: 5 }));
+        Ok(())
+    }
+
+    #[test]
+    fn numbers_stay_at_the_greatest_one(rt: HostRuntime) -> Result<(), Fail> {
+        let last = Reached {
+            line: u64::MAX,
+            col: u64::MAX,
+        };
+        assert_eq!(rt; last.behind(b"a\t"), last);
+        assert_eq!(rt;
+            last.behind(b"\na"),
+            Reached {
+                line: u64::MAX,
+                col: 2
+            }
+        );
+        assert!(rt;
+            !last.is_at(Pos {
+                line: u32::MAX,
+                col: u32::MAX
+            })
+        );
+        Ok(())
+    }
+
+    #[test]
+    fn a_newline_is_a_return_a_linefeed_or_a_form_feed(rt: HostRuntime) -> Result<(), Fail> {
+        assert!(rt; has_newline(b"a\r") && has_newline(b"a\nb") && has_newline(b"\x0C"));
+        assert!(rt; !has_newline(b"a\t\x0B ") && !has_newline(b""));
+        Ok(())
+    }
+}

@@ -8,3 +8,6 @@ mod yields;
 pub use search::at;
 pub use tree::{Equation, Exp, Module};
 pub use yields::items;
+
+#[cfg(test)]
+mod tests;
