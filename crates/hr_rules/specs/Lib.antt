@@ -1,3 +1,4 @@
 pub mod Counted
 pub mod Lexing
 pub mod Positions
+pub mod PositionLaws

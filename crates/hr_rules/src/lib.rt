@@ -4,8 +4,10 @@
 
 mod items;
 mod laws;
+mod position_laws;
 mod positions;
 
 pub use items::join;
 pub use laws::{lexings_join, one_lexing};
+pub use position_laws::{behind_goes_on, positions_go_on};
 pub use positions::{Reached, has_newline};
