@@ -1,8 +1,13 @@
 //! The lossless tree of a module: for now that of the plain form.
 #![tactic(auto)]
 
-mod calls;
+mod search;
 mod tree;
+mod yields;
 
-pub use calls::{at, items};
+pub use search::at;
 pub use tree::{Equation, Exp, Module};
+pub use yields::items;
+
+#[cfg(test)]
+mod tests;
