@@ -37,17 +37,21 @@ fn group(alloc: Global, inner: Exp) -> Result<Exp, AllocError> {
     Ok(Exp::Group(left, Boxed::new(alloc, inner)?, right))
 }
 
+// `g (h 2)`
+fn body(alloc: Global) -> Result<Exp, AllocError> {
+    let argument = apply(alloc, variable(alloc, b"", b"h")?, integer(alloc, b"2")?)?;
+    apply(alloc, variable(alloc, b" ", b"g")?, group(alloc, argument)?)
+}
+
 // `f x = g (h 2)`
 fn first(alloc: Global) -> Result<Equation, AllocError> {
-    let argument = apply(alloc, variable(alloc, b"", b"h")?, integer(alloc, b"2")?)?;
-    let body = apply(alloc, variable(alloc, b" ", b"g")?, group(alloc, argument)?)?;
     let mut list = Vec::new(alloc);
     list.push(item(alloc, Class::VarId, b" ", b"x")?)?;
     Ok(Equation {
         name: item(alloc, Class::VarId, b"\xEF\xBB\xBF{-\xC3\xA9-}", b"f")?,
         patterns: Seq { list },
         equals: item(alloc, Class::ReservedOp, b"\t", b"=")?,
-        body,
+        body: body(alloc)?,
     })
 }
 
