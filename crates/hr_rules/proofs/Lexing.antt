@@ -36,12 +36,13 @@ module _ {class_of : Classes} {is_piece : Pieces} {bars : Barriers} (laws : AreA
   -- a lexeme at the front of a text is determined by it
   pub same_lexeme : (c d : Class) (x y a b : List ℕ) → Fits class_of bars c x a → Fits class_of bars d y b → x ++ a ≡ y ++ b → (x ≡ y) × (c ≡ d)
   same_lexeme c d x y a b f g e =
-      let some_y : IsSome (class_of y) = ap is_some g.is in
-      let some_x : IsSome (class_of x) = ap is_some f.is in
+      let some_y : IsSome (class_of y b) = ap is_some g.is in
+      let some_x : IsSome (class_of x a) = ap is_some f.is in
       let shorter : length y ≤ length x = f.longest y b e some_y in
       let longer : length x ≤ length y = g.longest x a (sym e) some_x in
       let same : x ≡ y = same_front x y a b e (omega arith) in
-      let classes : ◌≡◌ {A = Option Class} (Some c) (Some d) = sym f.is ∙ ap class_of same ∙ g.is in
+      let left : a ≡ b = append_cancel_left y a b (ap (λ z. z ++ a) (sym same) ∙ e) in
+      let classes : ◌≡◌ {A = Option Class} (Some c) (Some d) = sym f.is ∙ (λ k. class_of (same k) (left k)) ∙ g.is in
       (same, cc)
 
   -- at the end of a text no lexeme is left
@@ -51,7 +52,7 @@ module _ {class_of : Classes} {is_piece : Pieces} {bars : Barriers} (laws : AreA
       let trivia : tail ≡ item.trivia = same_trivia t t' whole laws.end_bars_nothing fits.begins in
       let behind : [] ≡ item.lexeme.text ++ rest = append_cancel_left item.trivia [] (item.lexeme.text ++ rest) (ap (λ x. x ++ []) (sym trivia) ∙ whole) in
       let empty : item.lexeme.text ≡ [] = no_front item.lexeme.text rest (sym behind) in
-      let is : ◌≡◌ {A = Option Class} (Some item.lexeme.class) None = sym fits.is ∙ ap class_of empty ∙ laws.lexeme_not_empty in
+      let is : ◌≡◌ {A = Option Class} (Some item.lexeme.class) None = sym fits.is ∙ ap (λ t. class_of t rest) empty ∙ laws.lexeme_not_empty rest in
       cc
 
   pub one_lexing : {bytes bytes' : List ℕ} {items others : List Item} {tail other_tail : List ℕ} → Lexes class_of is_piece bars bytes items tail → Lexes class_of is_piece bars bytes' others other_tail → bytes ≡ bytes' → (items ≡ others) × (tail ≡ other_tail)

@@ -1,3 +1,5 @@
-pub mod Lexing
+pub mod Apart
 pub mod Behind
 pub mod GoOn
+pub mod Lexing
+pub mod Reading

@@ -4,9 +4,9 @@ use Rattle.std.specs.Prelude.{◌≡◌, ◌≢◌, ℕ, ◌≤◌, Bool, true, 
 use Rattle.hr_base.specs.declared.lexeme.Class.{Class}
 use Rattle.hr_base.specs.declared.lexeme.Item.{Item}
 
--- the class of a text that is a whole lexeme
+-- the class of the first text if it is a whole lexeme where the second one follows
 abbrev pub Classes : Type 0
-Classes = List ℕ → Option Class
+Classes = List ℕ → List ℕ → Option Class
 
 -- the first text is one blank or one comment where the second one follows
 abbrev pub Pieces : Type 0
@@ -24,8 +24,8 @@ pub data Trivia (is_piece : Pieces) : List ℕ → List ℕ → Type 0 where
 -- a lexeme of the class is what is read where `text` and then `after` are left: it is a lexeme,
 -- no longer one begins there, and one may begin there at all
 pub record Fits (class_of : Classes) (bars : Barriers) (class : Class) (text after : List ℕ) : Type 0 where
-  pub is : class_of text ≡ Some class
-  pub longest : (longer rest : List ℕ) → text ++ after ≡ longer ++ rest → IsSome (class_of longer) → length longer ≤ length text
+  pub is : class_of text after ≡ Some class
+  pub longest : (longer rest : List ℕ) → text ++ after ≡ longer ++ rest → IsSome (class_of longer rest) → length longer ≤ length text
   pub begins : bars (text ++ after) ≡ false
 
 -- bytes are the trivia and lexemes of the items, joined, and then the tail
@@ -39,7 +39,7 @@ pub data Lexes (class_of : Classes) (is_piece : Pieces) (bars : Barriers) : List
 
 -- what the predicates have to meet for a text to have one list of items at most
 pub record AreApart (class_of : Classes) (is_piece : Pieces) (bars : Barriers) : Type 0 where
-  pub lexeme_not_empty : class_of [] ≡ None
+  pub lexeme_not_empty : (after : List ℕ) → class_of [] after ≡ None
   pub piece_not_empty : (piece after : List ℕ) → is_piece piece after ≡ true → piece ≢ []
   pub piece_bars : (piece after : List ℕ) → is_piece piece after ≡ true → bars (piece ++ after) ≡ true
   pub piece_is_one : (piece after other rest : List ℕ) → is_piece piece after ≡ true → is_piece other rest ≡ true → piece ++ after ≡ other ++ rest → piece ≡ other

@@ -1,4 +1,13 @@
+pub mod Comments
 pub mod Counted
+pub mod Letters
+pub mod Lexemes
 pub mod Lexing
-pub mod Positions
+pub mod Names
+pub mod Numbers
+pub mod Operators
 pub mod PositionLaws
+pub mod Positions
+pub mod Qualified
+pub mod Quotes
+pub mod Runs

@@ -1,4 +1,5 @@
 ghost use Rattle.hr_rules.specs.Lexing.{OneLexing, LexingsJoin};
+ghost use Rattle.hr_rules.specs.Lexemes.{OneReading, ReadingsJoin, RulesKeepApart};
 
 /// A text has one list of items at most, whatever lexemes, blanks and comments are, as long as
 /// these keep apart: a law about the definitions, which no call needs to run.
@@ -9,4 +10,19 @@ pub fn one_lexing()
 /// The items of a text and what is behind them, joined, are the text: a law as well.
 pub fn lexings_join()
     ensures { LexingsJoin }
+{}
+
+/// The whole rules keep lexemes, blanks and comments apart.
+pub fn rules_keep_apart()
+    ensures { RulesKeepApart }
+{}
+
+/// So a text has one list of items at most under the whole rules.
+pub fn one_reading()
+    ensures { OneReading }
+{}
+
+/// And these, joined, are the text.
+pub fn readings_join()
+    ensures { ReadingsJoin }
 {}

@@ -2,12 +2,14 @@
 //! items, and the text that items make.
 #![tactic(auto)]
 
+mod character;
 mod items;
 mod laws;
 mod position_laws;
 mod positions;
 
+pub use character::{Kind, continues_name, is_blank_char, is_in_name, is_newline, is_symbol, kind_of};
 pub use items::join;
-pub use laws::{lexings_join, one_lexing};
+pub use laws::{lexings_join, one_lexing, one_reading, readings_join, rules_keep_apart};
 pub use position_laws::{behind_goes_on, positions_go_on};
 pub use positions::{Reached, has_newline};

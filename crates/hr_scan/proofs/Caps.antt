@@ -1,10 +1,10 @@
 -- Columns that are shown up to a greatest one.
-use Rattle.std.proofs.Common.{◌≡◌, ℕ, zero, suc, ◌+◌, ◌*◌, ◌/◌, ◌<◌, ◌≤◌, ◌^◌, ◌-◌, ◌==◌, Bool, true, false, cond, min, map, replicate, List, [], ◌∷◌, ◌++◌, length, drop, Option, Some, None, refl, sym, ap, ap₂, ◌∙◌, arith, append_assoc, append-nil, length-drop, drop_of_length-le}
+use Rattle.std.proofs.Common.{◌≡◌, ℕ, zero, suc, ◌+◌, ◌*◌, ◌/◌, ◌<◌, ◌≤◌, ◌^◌, ◌==◌, Bool, true, false, cond, min, map, replicate, List, [], ◌∷◌, ◌++◌, length, drop, Option, Some, None, refl, sym, ap, ap₂, ◌∙◌, arith, append_assoc, append-nil, length-drop, drop_of_length-le}
 use Rattle.std.proofs.lemmas.List.{map-append, drop-drop}
 use Rattle.hr_scan.specs.declared.character.Character.{Character}
 use Rattle.hr_scan.specs.Characters.{char_at, cell_len, cells}
 use Rattle.hr_scan.specs.Columns.{next_column, columns_from, columns_of, tab, byte_order_mark}
-use Rattle.hr_scan.proofs.Cells.{cells-cut, cell_len-pos, length-cells}
+use Rattle.hr_scan.proofs.Cells.{cells-cut, length-cells}
 
 -- the greatest column that is shown
 abbrev pub cap : ℕ → ℕ

@@ -2,15 +2,17 @@
 --     cells-cut      the first cell, and those behind it
 --     cell_len-pos, cell_len-fits, length-cells      how long cells are
 --     cells-append, cells-append_ascii      a text may be cut where a character may begin, and behind an ASCII byte
---     cells-encode      the characters of a text in UTF-8
-use Rattle.std.proofs.Common.{◌≡◌, ℕ, zero, suc, ◌+◌, ◌-◌, ◌<◌, ◌≤◌, List, [], ◌∷◌, ◌++◌, length, drop, Option, Some, None, refl, sym, ap, ap₂, ◌∙◌, arith, length-drop, length-append, append_assoc, drop_at}
+--     cells-encode, cells-ascii, cells-IsUtf8      the characters of a text in UTF-8
+--     cells-one      one cell by itself
+use Rattle.std.proofs.Common.{true, map, ◌≡◌, ℕ, zero, suc, ◌-◌, ◌<◌, ◌≤◌, List, [], ◌∷◌, ◌++◌, length, drop, Option, Some, None, refl, sym, ap, ap₂, ◌∙◌, arith, length-drop, length-append, length-take, append_assoc, drop_at, drop_of_length-le, subst, take}
 use Rattle.std.proofs.lemmas.List.{drop-append-le}
 use Rattle.std.specs.Char.{IsScalar, encode_utf8}
-use Rattle.std.specs.Str.{IsCharBoundary}
-use Rattle.std.proofs.lemmas.Str.{length-encode, len_utf8_bounds}
+use Rattle.std.specs.Str.{IsCharBoundary, IsUtf8, chars, all_scalars, encode_utf8_all}
+use Rattle.std.proofs.lemmas.Bool.{and_parts}
+use Rattle.std.proofs.lemmas.Str.{length-encode, len_utf8_bounds, encodes-chars, scalars-chars}
 use Rattle.hr_scan.specs.declared.character.Character.{Character}
 use Rattle.hr_scan.specs.Characters.{char_at, cell_len, cells, cells_past, Begins}
-use Rattle.hr_scan.proofs.Characters.{char_at-sound, char_at-before, char_at-ascii, char_at-encode}
+use Rattle.hr_scan.proofs.Characters.{character, char_at-sound, char_at-before, char_at-ascii, char_at-encode, char_at-append, char_at-take}
 
 cells_past-drop : (n : ℕ) (bytes : List ℕ) → cells_past n bytes ≡ cells (drop n bytes)
 cells_past-drop zero bytes = refl
@@ -95,3 +97,36 @@ cells-encode c rest s =
     cells-cut (encode_utf8 c ++ rest) some
     ∙ ap (λ o. o ∷ cells (drop (cell_len o) (encode_utf8 c ++ rest))) (char_at-encode c rest s)
     ∙ ap (λ l. Some (record { code = c; len = length (encode_utf8 c) }) ∷ cells l) (drop_at (encode_utf8 c) rest (length (encode_utf8 c)) refl)
+
+one_alone : (b : ℕ) (rest : List ℕ) → char_at (b ∷ rest) ≡ None → char_at (b ∷ []) ≡ None
+one_alone b rest e = by (char_at (b ∷ [])) refl
+  where
+    by : (o : Option Character) → char_at (b ∷ []) ≡ o → char_at (b ∷ []) ≡ None
+    by None f = f
+    by (Some c) f = let found : None ≡ Some c = sym e ∙ char_at-append (b ∷ []) rest c f in absurd (cc)
+
+-- a cell's own bytes are that cell
+pub cells-one : (bytes : List ℕ) → 0 < length bytes → cells (take (cell_len (char_at bytes)) bytes) ≡ char_at bytes ∷ []
+cells-one [] h = absurd (omega arith)
+cells-one (first ∷ rest) h = by (char_at (first ∷ rest)) refl
+  where
+    by : (o : Option Character) → char_at (first ∷ rest) ≡ o → cells (take (cell_len o) (first ∷ rest)) ≡ o ∷ []
+    by None e = cells-cut (first ∷ []) (omega arith) ∙ ap (λ o. o ∷ cells (drop (cell_len o) (first ∷ []))) (one_alone first rest e)
+    by (Some c) e =
+        let bytes = first ∷ rest in
+        let fits : c.len ≤ length bytes = subst (λ o. cell_len o ≤ length bytes) e (cell_len-fits bytes (omega arith)) in
+        let long : length (take c.len bytes) ≡ c.len = omega (arith, length-take c.len bytes) in
+        let some : 1 ≤ c.len = subst (λ o. 1 ≤ cell_len o) e (cell_len-pos bytes) in
+        cells-cut (take c.len bytes) (omega arith)
+        ∙ ap (λ o. o ∷ cells (drop (cell_len o) (take c.len bytes))) (char_at-take c.len bytes c e (omega arith))
+        ∙ ap (λ l. Some c ∷ cells l) (drop_of_length-le (take c.len bytes) (omega arith))
+
+cells_spelt : (cs : List ℕ) → all_scalars cs ≡ true → cells (encode_utf8_all cs) ≡ map (λ c. Some (character c)) cs
+cells_spelt [] s = refl
+cells_spelt (c ∷ cs) s =
+    let p = and_parts _ _ s in
+    cells-encode c (encode_utf8_all cs) p.0 ∙ ap (λ l. Some (character c) ∷ l) (cells_spelt cs p.1)
+
+-- the cells of a text in UTF-8 are its characters
+pub cells-IsUtf8 : (bytes : List ℕ) → IsUtf8 bytes → cells bytes ≡ map (λ c. Some (character c)) (chars bytes)
+cells-IsUtf8 bytes u = ap cells (sym (encodes-chars bytes u)) ∙ cells_spelt (chars bytes) (scalars-chars bytes u)

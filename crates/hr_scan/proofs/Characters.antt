@@ -3,72 +3,24 @@
 --     char_at-encode, char_at-ascii      what it answers on a character's bytes, and on an ASCII byte
 --     char_at-none, char_at-none_back      it answers none exactly where no character begins
 --     char_at-append, char_at-take      the character's own bytes decide
-use Rattle.std.proofs.Common.{◌≡◌, ◌≢◌, ℕ, zero, suc, ◌+◌, ◌-◌, ◌/◌, ◌%◌, ◌⊎◌, ◌<◌, ◌≤◌, Bool, true, false, cond, nat_lt, List, [], ◌∷◌, ◌++◌, length, take, drop, slice_index, slice_get, Option, Some, None, Result, Ok, Err, MatchResult, IfSome, IfNone, drop-drop, drop_at, take-add, get_or, ⊎_elim, refl, sym, ap, ◌∙◌, subst, inl, inr, arith, append_assoc, append-nil, ltb-true, lt-ltb, le-ltb, ltb-false, take-append-drop, length-append, length-take, take_at, add-one}
+--     char_at-before      what comes behind does not, where a character may begin there
+--     char_at-IsUtf8, char_at-IsValidUpTo      in UTF-8 one begins, and where UTF-8 ends none does
+use Rattle.std.proofs.Common.{◌≡◌, ℕ, ◌+◌, ◌-◌, ◌⊎◌, ◌<◌, ◌≤◌, Bool, true, false, cond, List, [], ◌∷◌, ◌++◌, length, take, drop, slice_index, slice_get, Option, Some, None, IfSome, IfNone, drop-drop, drop_at, take-add, get_or, ⊎_elim, refl, sym, ap, ◌∙◌, subst, inl, inr, arith, append_assoc, append-nil, lt-ltb, le-ltb, take-append-drop, length-append, length-take, take_at, add-one}
 use Rattle.std.proofs.lemmas.Bool.{cases_lt, and_parts}
-use Rattle.std.proofs.lemmas.List.{nil_from_length, take_min, take-append-le, get_or-append-add, get_or_append_left}
+use Rattle.std.proofs.lemmas.List.{nil_from_length, take-append-le, get_or-append-add, get_or_append_left}
 use Rattle.std.proofs.Math.Seq.{take-append-add}
 use Rattle.std.specs.Char.{IsScalar, encode_utf8}
 use Rattle.std.specs.Option.{option_map}
-use Rattle.std.specs.Result.{result_ok}
 use Rattle.std.specs.Str.{chars, is_utf8, IsUtf8, StartsWithNoChar, IsCharBoundary, IsValidUpTo, encode_utf8_all, all_scalars, continuation_len}
-use Rattle.std.proofs.lemmas.Str.{chars-encodes, IsUtf8-encode, is_utf8-from_IsUtf8, IsUtf8-from_is_utf8, chars_from_encodes, encode_ascii, encode_same, chars_past_char, IsUtf8-append, length-encode, len_utf8_bounds}
-use Rattle.std.specs.List.{AllByRecursion}
-use lib.Utf8.{scalar_cases, low_scalar}
+use Rattle.std.proofs.lemmas.Str.{chars-encodes, IsUtf8-encode, is_utf8-from_IsUtf8, IsUtf8-from_is_utf8, chars_from_encodes, encode_ascii, chars_past_char, IsUtf8-append, length-encode, len_utf8_bounds}
+use lib.Utf8.{low_scalar}
 use Rattle.hr_scan.specs.declared.character.Character.{Character}
+use Rattle.hr_scan.proofs.Spelling.{Spelling, alone, led, spelling, lead, continues_at}
 use Rattle.hr_scan.specs.Characters.{announced_len, spelled, char_at, Begins}
 
 -- the character that c stands for
-abbrev character : ℕ → Character
+abbrev pub character : ℕ → Character
 character c = record { code = c; len = length (encode_utf8 c) }
-
--- a byte of a character behind its first one
-abbrev Continues : ℕ → Type 0
-Continues b = (128 ≤ b) × (b < 192)
-
--- how a character is spelled: by itself, or by a first byte that says how many follow
-data Spelling (c : ℕ) : Type 0 where
-  alone : c < 128 → encode_utf8 c ≡ c ∷ [] → Spelling c
-  led : (first : ℕ) (rest : List ℕ) → 192 ≤ first → continuation_len first ≡ length rest → AllByRecursion Continues rest → encode_utf8 c ≡ first ∷ rest → Spelling c
-
-next : (x : ℕ) → Continues (128 + x % 64)
-next x = (omega arith, omega arith)
-
-two : (c : ℕ) → 128 ≤ c → c < 2048 → encode_utf8 c ≡ (192 + c / 64) ∷ (128 + c % 64) ∷ []
-unfolding encode_utf8
-two c l h = rw (le-ltb c 128 l, lt-ltb c 2048 h)
-
-three : (c : ℕ) → 2048 ≤ c → c < 65536 → encode_utf8 c ≡ (224 + c / 4096) ∷ (128 + c / 64 % 64) ∷ (128 + c % 64) ∷ []
-unfolding encode_utf8
-three c l h = let l2 : 128 ≤ c = omega arith in rw (le-ltb c 128 l2, le-ltb c 2048 l, lt-ltb c 65536 h)
-
-four : (c : ℕ) → 65536 ≤ c → encode_utf8 c ≡ (240 + c / 262144) ∷ (128 + c / 4096 % 64) ∷ (128 + c / 64 % 64) ∷ (128 + c % 64) ∷ []
-unfolding encode_utf8
-four c l =
-    let l2 : 128 ≤ c = omega arith in
-    let l3 : 2048 ≤ c = omega arith in
-    rw (le-ltb c 128 l2, le-ltb c 2048 l3, le-ltb c 65536 l)
-
--- the ranges of first bytes
-first_of_two : (a : ℕ) → 192 ≤ a → a < 224 → continuation_len a ≡ 1
-first_of_two a l h = let l1 : 128 ≤ a = omega arith in rw (le-ltb a 128 l1, lt-ltb a 224 h)
-
-first_of_three : (a : ℕ) → 224 ≤ a → a < 240 → continuation_len a ≡ 2
-first_of_three a l h = let l1 : 128 ≤ a = omega arith in rw (le-ltb a 128 l1, le-ltb a 224 l, lt-ltb a 240 h)
-
-first_of_four : (a : ℕ) → 240 ≤ a → continuation_len a ≡ 3
-first_of_four a l =
-    let l1 : 128 ≤ a = omega arith in
-    let l2 : 224 ≤ a = omega arith in
-    rw (le-ltb a 128 l1, le-ltb a 224 l2, le-ltb a 240 l)
-
-spelling : (c : ℕ) → Spelling c
-spelling c = by (cases_lt c 128) (cases_lt c 2048) (cases_lt c 65536)
-  where
-    by : (c < 128) ⊎ (128 ≤ c) → (c < 2048) ⊎ (2048 ≤ c) → (c < 65536) ⊎ (65536 ≤ c) → Spelling c
-    by (inl h) _ _ = alone h (encode_ascii c h)
-    by (inr l) (inl h) _ = led (192 + c / 64) _ (omega arith) (first_of_two (192 + c / 64) (omega arith) (omega arith)) (next c, tt) (two c l h)
-    by (inr _) (inr l) (inl h) = led (224 + c / 4096) _ (omega arith) (first_of_three (224 + c / 4096) (omega arith) (omega arith)) (next (c / 64), (next c, tt)) (three c l h)
-    by (inr _) (inr _) (inr l) = led (240 + c / 262144) _ (omega arith) (first_of_four (240 + c / 262144) (omega arith)) (next (c / 4096), (next (c / 64), (next c, tt))) (four c l)
 
 chars-encode : (c : ℕ) → IsScalar c → chars (encode_utf8 c) ≡ c ∷ []
 chars-encode c s = ap chars (sym (append-nil (encode_utf8 c))) ∙ chars-encodes (c ∷ []) (rw s refl)
@@ -99,20 +51,9 @@ pub spelled_first : (n c : ℕ) (bytes rest : List ℕ) → IsUtf8 (take n bytes
 unfolding spelled
 spelled_first n c bytes rest u e = rw (is_utf8-from_IsUtf8 (take n bytes) u, chars_past_char (take n bytes) rest c u e)
 
-pub refused : {A E : Type 0} (N : Type 0) (P : A → Type 0) (Q : E → Type 0) (r : Result A E) → MatchResult r P (λ e. N × Q e) → result_ok r ≡ None → N
-refused N P Q (Ok x) m e = absurd (cc)
-refused N P Q (Err x) m e = m.0
-
-pub accepted : {A E : Type 0} (P : A → Type 0) (Q : E → Type 0) (r : Result A E) (x : A) → MatchResult r P Q → result_ok r ≡ Some x → P x
-accepted P Q (Ok y) x m e = let same : y ≡ x = cc in subst P same m
-accepted P Q (Err y) x m e = absurd (cc)
-
-char_at-small : (first : ℕ) (rest : List ℕ) → first < 128 → char_at (first ∷ rest) ≡ Some (record { code = first; len = 1 })
-char_at-small first rest h = ap (λ b. cond b (Some (record { code = first; len = 1 })) (spelled (announced_len first) (first ∷ rest))) (lt-ltb first 128 h)
-
 -- an ASCII byte is itself
 pub char_at-ascii : (first : ℕ) (rest : List ℕ) → first < 128 → char_at (first ∷ rest) ≡ Some (record { code = first; len = 1 })
-char_at-ascii = char_at-small
+char_at-ascii first rest h = ap (λ b. cond b (Some (record { code = first; len = 1 })) (spelled (announced_len first) (first ∷ rest))) (lt-ltb first 128 h)
 
 -- the bytes of a character, before any others, give it
 pub char_at-encode : (c : ℕ) (rest : List ℕ) → IsScalar c → char_at (encode_utf8 c ++ rest) ≡ Some (character c)
@@ -120,7 +61,7 @@ char_at-encode c rest s = by (spelling c)
   where
     by : Spelling c → char_at (encode_utf8 c ++ rest) ≡ Some (character c)
     by (alone h e) =
-        ap (λ l. char_at (l ++ rest)) e ∙ char_at-small c rest h ∙ ap (λ l. Some (record { code = c; len = length l })) (sym e)
+        ap (λ l. char_at (l ++ rest)) e ∙ char_at-ascii c rest h ∙ ap (λ l. Some (record { code = c; len = length l })) (sym e)
     by (led first others l n f e) =
         let long : announced_len first ≡ length (first ∷ others) = omega (arith, n) in
         ap (λ l. char_at (l ++ rest)) e
@@ -131,14 +72,6 @@ char_at-encode c rest s = by (spelling c)
 pub char_at-complete : (c : Character) (bytes rest : List ℕ) → Begins c bytes rest → char_at bytes ≡ Some c
 char_at-complete c bytes rest b =
     ap char_at b.bytes_are ∙ char_at-encode c.code rest b.scalar ∙ ap (λ n. Some (record { code = c.code; len = n })) (sym b.len)
-
--- a character's first byte says how many bytes it has
-lead : (c : ℕ) (rest : List ℕ) → announced_len (slice_index (encode_utf8 c ++ rest) 0) ≡ length (encode_utf8 c)
-lead c rest = by (spelling c)
-  where
-    by : Spelling c → announced_len (slice_index (encode_utf8 c ++ rest) 0) ≡ length (encode_utf8 c)
-    by (alone h e) = subst (λ l. announced_len (slice_index (l ++ rest) 0) ≡ length l) (sym e) (ap (λ b. cond b 0 (cond (nat_lt c 224) 1 (cond (nat_lt c 240) 2 3)) + 1) (lt-ltb c 128 h))
-    by (led first others l n f e) = subst (λ l. announced_len (slice_index (l ++ rest) 0) ≡ length l) (sym e) (omega (arith, n))
 
 -- bytes that the first one announces, and that are UTF-8, are one character
 one_character : (first c : ℕ) (rest others : List ℕ) → take (announced_len first) (first ∷ rest) ≡ encode_utf8 c ++ others → others ≡ []
@@ -189,7 +122,7 @@ char_at-sound (first ∷ rest) c e = by (cases_lt first 128)
         subst (λ n. Begins c (first ∷ rest) (drop n (first ∷ rest))) announced begins
 
     by : (first < 128) ⊎ (128 ≤ first) → Begins c (first ∷ rest) (drop c.len (first ∷ rest))
-    by (inl h) = let same : c ≡ record { code = first; len = 1 } = let f : ◌≡◌ {A = Option Character} (Some (record { code = first; len = 1 })) (Some c) = sym (char_at-small first rest h) ∙ e in cc in small h same
+    by (inl h) = let same : c ≡ record { code = first; len = 1 } = let f : ◌≡◌ {A = Option Character} (Some (record { code = first; len = 1 })) (Some c) = sym (char_at-ascii first rest h) ∙ e in cc in small h same
     by (inr h) = wide_one h
 
 -- where none is found, none begins the bytes
@@ -213,39 +146,23 @@ pub none_begins : (from : ℕ) (bytes : List ℕ) (r : Option Character) → r �
 none_begins from bytes None e = char_at-none (drop from bytes) (sym e)
 none_begins from bytes (Some c) e = tt
 
-all_at : (xs : List ℕ) (k : ℕ) → AllByRecursion Continues xs → k < length xs → Continues (get_or xs k 0)
-all_at [] k a h = absurd (omega arith)
-all_at (x ∷ xs) zero a h = a.0
-all_at (x ∷ xs) (suc k) a h = all_at xs k a.1 (omega arith)
-
--- behind its first byte a character has continuing bytes alone
-continues_at : (c k : ℕ) → 1 ≤ k → k < length (encode_utf8 c) → Continues (get_or (encode_utf8 c) k 0)
-continues_at c k l h = by (spelling c)
-  where
-    at : (k first : ℕ) (others : List ℕ) → AllByRecursion Continues others → 1 ≤ k → k < length (first ∷ others) → Continues (get_or (first ∷ others) k 0)
-    at zero first others a l h = absurd (omega arith)
-    at (suc k) first others a l h = all_at others k a (omega arith)
-    by : Spelling c → Continues (get_or (encode_utf8 c) k 0)
-    by (alone small e) = let long = ap length e in absurd (omega arith)
-    by (led first others big n a e) = let long = ap length e in subst (λ t. Continues (get_or t k 0)) (sym e) (at k first others a l (omega arith))
-
 -- the character's own bytes decide: what comes behind them does not
 pub char_at-append : (bytes more : List ℕ) (c : Character) → char_at bytes ≡ Some c → char_at (bytes ++ more) ≡ Some c
 char_at-append bytes more c e =
     let b = char_at-sound bytes c e in
     char_at-complete c (bytes ++ more) (drop c.len bytes ++ more) (record {
-        scalar = b.scalar;
-        len = b.len;
-        bytes_are = ap (λ l. l ++ more) b.bytes_are ∙ append_assoc (encode_utf8 c.code) (drop c.len bytes) more
+      scalar = b.scalar;
+      len = b.len;
+      bytes_are = ap (λ l. l ++ more) b.bytes_are ∙ append_assoc (encode_utf8 c.code) (drop c.len bytes) more;
     })
 
 pub char_at-take : (n : ℕ) (bytes : List ℕ) (c : Character) → char_at bytes ≡ Some c → c.len ≤ n → char_at (take n bytes) ≡ Some c
 char_at-take n bytes c e h =
     let b = char_at-sound bytes c e in
     char_at-complete c (take n bytes) (take (n - c.len) (drop c.len bytes)) (record {
-        scalar = b.scalar;
-        len = b.len;
-        bytes_are = ap (take n) b.bytes_are ∙ take_past (encode_utf8 c.code) (drop c.len bytes) n c.len b.len h
+      scalar = b.scalar;
+      len = b.len;
+      bytes_are = ap (take n) b.bytes_are ∙ take_past (encode_utf8 c.code) (drop c.len bytes) n c.len b.len h;
     })
   where
     take_past : (xs ys : List ℕ) (n k : ℕ) → k ≡ length xs → k ≤ n → take n (xs ++ ys) ≡ xs ++ take (n - k) ys
@@ -260,15 +177,17 @@ char_at-before bytes more some boundary = by (char_at bytes) (char_at (bytes ++ 
         let k = length bytes in
         let long : c.len ≤ length (bytes ++ more) = omega (arith, b.len, ap length b.bytes_are, length-append (encode_utf8 c.code) (drop c.len (bytes ++ more))) in
         let here : get_or more 0 0 ≡ get_or (encode_utf8 c.code) k 0 =
-            sym (get_or-append-add bytes more 0 0) ∙ ap (λ l. get_or l (k + 0) 0) b.bytes_are ∙ get_or_append_left (encode_utf8 c.code) _ 0 (k + 0) (omega (arith, b.len)) ∙ ap (λ i. get_or (encode_utf8 c.code) i 0) (omega arith) in
+        sym (get_or-append-add bytes more 0 0) ∙ ap (λ l. get_or l (k + 0) 0) b.bytes_are ∙ get_or_append_left (encode_utf8 c.code) _ 0 (k + 0) (omega (arith, b.len)) ∙ ap (λ i. get_or (encode_utf8 c.code) i 0) (omega arith) in
         let follows = continues_at c.code k (omega arith) (omega (arith, b.len)) in
         let may = boundary.1 (omega (arith, length-append bytes more)) (omega arith) in
         omega (arith, here, follows.1, may)
+
     inside : (c : Character) → Begins c (bytes ++ more) (drop c.len (bytes ++ more)) → c.len ≤ length bytes → char_at bytes ≡ Some c
     inside c b h =
         let n = c.len in
         let front : take n bytes ≡ encode_utf8 c.code = sym (take-append-le n bytes more h) ∙ ap (take n) b.bytes_are ∙ take_at (encode_utf8 c.code) _ n (sym b.len) in
         char_at-complete c bytes (drop n bytes) (record { scalar = b.scalar; len = b.len; bytes_are = sym (take-append-drop n bytes) ∙ ap (λ l. l ++ drop n bytes) front })
+
     by : (o w : Option Character) → char_at bytes ≡ o → char_at (bytes ++ more) ≡ w → char_at (bytes ++ more) ≡ char_at bytes
     by (Some c) w e f = char_at-append bytes more c e ∙ sym e
     by None None e f = f ∙ sym e
@@ -297,5 +216,5 @@ char_at-IsValidUpTo bytes n v = by (char_at (drop n bytes)) refl
     by (Some c) e =
         let b = char_at-sound (drop n bytes) c e in
         let longer : take (n + c.len) bytes ≡ take n bytes ++ encode_utf8 c.code =
-            take-add n c.len bytes ∙ ap (λ l. take n bytes ++ l) (ap (take c.len) b.bytes_are ∙ take_at (encode_utf8 c.code) _ c.len (sym b.len)) in
+        take-add n c.len bytes ∙ ap (λ l. take n bytes ++ l) (ap (take c.len) b.bytes_are ∙ take_at (encode_utf8 c.code) _ c.len (sym b.len)) in
         absurd (v.longest (n + c.len) (omega (arith, b.len, length-encode c.code, (len_utf8_bounds c.code).0)) (subst IsUtf8 (sym longer) (IsUtf8-append (take n bytes) (encode_utf8 c.code) v.front (IsUtf8-encode c.code b.scalar))))

@@ -3,8 +3,8 @@
 --     end_column-append, end_column-encode      the column behind a text and what is put to it
 --     column_at-seam      the column of a place where a character may begin is the one behind the text before it
 --     column_at-front      the columns of a line are those of its own bytes
---     end_column-plain      in ASCII without tabs a column counts the bytes
-use Rattle.std.proofs.Common.{◌≡◌, ℕ, zero, suc, ◌+◌, ◌-◌, ◌*◌, ◌/◌, ◌<◌, ◌≤◌, ◌==◌, Bool, cond, ◌≢◌, List, [], ◌∷◌, ◌++◌, length, drop, take, get_or, replicate, Option, Some, None, refl, sym, ap, ap₂, ◌∙◌, subst, arith, length-append, length-drop, append_assoc, append-nil, ne_eqb}
+--     end_column-plain, column_at-plain      in ASCII without tabs a column counts the bytes
+use Rattle.std.proofs.Common.{◌≡◌, ℕ, zero, suc, ◌+◌, ◌*◌, ◌/◌, ◌<◌, ◌≤◌, Bool, cond, ◌≢◌, List, [], ◌∷◌, ◌++◌, length, drop, get_or, replicate, Option, Some, refl, sym, ap, ap₂, ◌∙◌, arith, length-append, length-drop, append_assoc, append-nil, ne_eqb}
 use Rattle.std.specs.List.{fold, AllByRecursion}
 use Rattle.std.specs.Char.{IsScalar, encode_utf8}
 use Rattle.std.specs.Str.{IsCharBoundary}
@@ -53,10 +53,10 @@ front_column c (first ∷ rest) =
     first_of zero xs ys h = absurd (omega arith)
     first_of (suc n) xs ys h = refl
 
-pub column_at-seam : (front back : List ℕ) → IsCharBoundary back 0 → column_at (front ++ back) (length front) ≡ end_column front
-column_at-seam front back boundary =
+-- where a line is cut off as its cells are, its column there is the one behind the front
+column_at-end : (front back : List ℕ) → cells (front ++ back) ≡ cells front ++ cells back → column_at (front ++ back) (length front) ≡ end_column front
+column_at-end front back parts =
     let e = end_column front in
-    let parts = cells-append front back boundary in
     let columns : columns_of (front ++ back) ≡ columns_of front ++ columns_from e (cells back) = ap (columns_from 1) parts ∙ columns_from-append 1 (cells front) (cells back) in
     let end : end_column (front ++ back) ≡ fold next_column e (cells back) = ap (fold next_column 1) parts ∙ fold-append next_column 1 (cells front) (cells back) in
     ap₂ (λ (l : List ℕ) (n : ℕ). get_or (l ++ n ∷ []) (length front) 0) columns end
@@ -64,7 +64,10 @@ column_at-seam front back boundary =
     ∙ get_or-append-add (columns_of front) _ 0 0
     ∙ front_column e back
 
--- where a line is cut off as its cells are, the bytes before that keep their columns
+pub column_at-seam : (front back : List ℕ) → IsCharBoundary back 0 → column_at (front ++ back) (length front) ≡ end_column front
+column_at-seam front back boundary = column_at-end front back (cells-append front back boundary)
+
+-- the bytes before that keep their columns
 column_at-cut : (front back : List ℕ) (place : ℕ) → cells (front ++ back) ≡ cells front ++ cells back → place < length front → column_at (front ++ back) place ≡ get_or (columns_of front) place 0
 column_at-cut front back place parts h =
     let e = end_column front in
@@ -98,10 +101,21 @@ plain_from [] c all = omega arith
 plain_from (b ∷ rest) c all =
     let no_mark : b ≢ byte_order_mark = λ e. omega (arith, all.0.0) in
     let next : next_column c (Some (record { code = b; len = 1 })) ≡ c + 1 =
-        ap₂ (λ (t m : Bool). cond t ((c + 7) / 8 * 8 + 1) (cond m c (c + 1))) (ne_eqb b tab all.0.1) (ne_eqb b byte_order_mark no_mark) in
+    ap₂ (λ (t m : Bool). cond t ((c + 7) / 8 * 8 + 1) (cond m c (c + 1))) (ne_eqb b tab all.0.1) (ne_eqb b byte_order_mark no_mark) in
     ap (fold next_column c) (cells-ascii b rest all.0.0)
     ∙ ap (λ k. fold next_column k (cells rest)) next
     ∙ plain_from rest (c + 1) all.1 ∙ omega arith
 
 pub end_column-plain : (line : List ℕ) → AllByRecursion IsPlain line → end_column line ≡ length line + 1
 end_column-plain line all = plain_from line 1 all ∙ omega arith
+
+-- also where the line goes on
+plain_parts : (front back : List ℕ) → AllByRecursion IsPlain front → cells (front ++ back) ≡ cells front ++ cells back
+plain_parts [] back all = refl
+plain_parts (b ∷ rest) back all =
+    cells-ascii b (rest ++ back) all.0.0
+    ∙ ap (λ l. Some (record { code = b; len = 1 }) ∷ l) (plain_parts rest back all.1)
+    ∙ ap (λ l. l ++ cells back) (sym (cells-ascii b rest all.0.0))
+
+pub column_at-plain : (front back : List ℕ) → AllByRecursion IsPlain front → column_at (front ++ back) (length front) ≡ length front + 1
+column_at-plain front back all = column_at-end front back (plain_parts front back all) ∙ end_column-plain front all

@@ -2,5 +2,10 @@ pub mod Caps
 pub mod Cells
 pub mod Characters
 pub mod ColumnLaws
+pub mod LineIndex
+pub mod LineSpans
 pub mod LineStarts
+pub mod PositionColumns
 pub mod Positions
+pub mod Rows
+pub mod Spelling

@@ -1,5 +1,5 @@
 -- The starts of lines, one place further.
-use Rattle.std.proofs.Common.{◌≡◌, ℕ, ◌+◌, ◌<◌, Bool, true, false, List, [], ◌∷◌, ◌++◌, length, drop, get_or, if◌then◌else◌, sym, ap, ◌∙◌, append_assoc, append-nil, drop-cons, add-one}
+use Rattle.std.proofs.Common.{◌≡◌, ℕ, ◌+◌, ◌<◌, Bool, List, [], ◌∷◌, ◌++◌, length, drop, get_or, if◌then◌else◌, sym, ap, ◌∙◌, append_assoc, drop-cons, add-one}
 use Rattle.hr_scan.specs.Lines.{ends_newline, behind_newlines}
 
 -- the place behind a byte, where a newline ends with that byte

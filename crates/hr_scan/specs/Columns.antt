@@ -1,7 +1,7 @@
 -- The columns of a line (Haskell 98 Report, section 9.3): the first column is 1, a tab goes to the next
 -- tab stop, which are 8 characters apart, and every other character takes one column, but for the
 -- byte order mark, which takes none.
-use Rattle.std.specs.Prelude.{ℕ, ◌+◌, ◌*◌, ◌/◌, ◌==◌, List, [], ◌∷◌, ◌++◌, length, replicate, fold, Option, None, Some, slice_index, if◌then◌else◌}
+use Rattle.std.specs.Prelude.{ℕ, ◌+◌, ◌*◌, ◌/◌, ◌==◌, List, [], ◌∷◌, ◌++◌, replicate, fold, Option, None, Some, slice_index, if◌then◌else◌}
 use Rattle.hr_scan.specs.declared.character.Character.{Character}
 use Rattle.hr_scan.specs.Characters.{cells, cell_len}
 

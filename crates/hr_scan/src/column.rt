@@ -49,14 +49,9 @@ fn cell_len(cell: Option<Character>) -> usize
 fn next_column(column: u32, cell: Option<Character>) -> u32
     ensures { result ≡ min u32.MAX (next_column column cell) }
 {
-    match cell {
-        Some(Character { code: TAB, .. }) => next_tab_stop(column),
-        Some(
-            Character {
-                code: BYTE_ORDER_MARK,
-                ..
-            },
-        ) => column,
+    match cell.map(|character| character.code) {
+        Some(TAB) => next_tab_stop(column),
+        Some(BYTE_ORDER_MARK) => column,
         _ => column.saturating_add(1),
     }
 }

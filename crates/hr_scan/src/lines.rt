@@ -4,7 +4,7 @@ ghost use Rattle.hr_scan.specs.Lines.{ends_newline, starts_of_lines};
 
 use std::alloc::{AllocError, Global};
 
-const FORM_FEED: u8 = 0x0C;
+pub(crate) const FORM_FEED: u8 = 0x0C;
 
 /// The place of each line's first byte: 0, and each place behind a newline.
 pub fn line_starts(alloc: Global, bytes: &[u8]) -> Result<Vec<usize>, AllocError>

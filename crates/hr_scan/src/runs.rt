@@ -3,6 +3,8 @@ ghost use Rattle.std.specs.Prelude.{◌≡◌, ◌≤◌, drop, length};
 ghost use Rattle.std.specs.List.{prefix_len};
 ghost use Rattle.hr_scan.specs.Classes.{in_class};
 
+use crate::lines::FORM_FEED;
+
 /// The classes of bytes that runs are made of.
 #[derive(Clone, Copy, Debug, PartialEq, Eq)]
 pub enum ByteClass {
@@ -24,7 +26,7 @@ impl ByteClass {
         match self {
             ByteClass::Blank => matches!(byte, b' ' | b'\t'),
             ByteClass::Ident => byte.is_ascii_alphanumeric() || matches!(byte, b'_' | b'\''),
-            ByteClass::LineBody => !matches!(byte, b'\n' | b'\r' | 0x0C),
+            ByteClass::LineBody => !matches!(byte, b'\n' | b'\r' | FORM_FEED),
             ByteClass::NestBody => !matches!(byte, b'{' | b'-'),
         }
     }

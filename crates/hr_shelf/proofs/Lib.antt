@@ -1,1 +1,4 @@
-pub mod Entries
+pub mod FileMap
+pub mod NameLists
+pub mod Scan
+pub mod Streams

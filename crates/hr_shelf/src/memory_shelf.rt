@@ -1,11 +1,11 @@
-ghost use Rattle.std.specs.Prelude.{◌≡◌, ◌≤◌, ◌↔◌, Some, Ok, IfOk, IfErr, IsTrue, IsErr, OnOk, OnErr, Contains, position};
+ghost use Rattle.std.specs.Prelude.{◌≡◌, ◌≤◌, ◌↔◌, Some, Ok, IfOk, IfErr, IsTrue, IsErr, OnOk, OnErr, Contains};
 ghost use Rattle.std.specs.Option.{option_copied};
 ghost use Rattle.std.specs.FinMap as map;
-ghost use Rattle.std.specs.Str.{bytes_eq};
 ghost use Rattle.hr_shelf.specs.Outside.{StaysReady};
 ghost use Rattle.hr_shelf.specs.Memory.{new_shelf, with_file, names, read_answer, Refused, after_read, after_replace, shelf_fails};
 
 use crate::calls::Calls;
+use crate::entries::place_of;
 use crate::{Failed, ReadError, Shelf};
 use hr_base::{Seq, Text};
 use std::alloc::{AllocError, Global};
@@ -67,13 +67,6 @@ impl MemoryShelf {
         let place = place_of(&self.files, name.as_bytes())?;
         Some(self.files[place].1.as_slice())
     }
-}
-
-/// The place of the first entry with the name.
-fn place_of(files: &[(Text, Text)], name: &[u8]) -> Option<usize>
-    ensures { result ≡ position (λ entry. bytes_eq name.now entry.0) files.now }
-{
-    files.iter().position(|(held, _)| name == held.as_slice())
 }
 
 impl Shelf for MemoryShelf {

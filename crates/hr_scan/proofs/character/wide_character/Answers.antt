@@ -1,9 +1,17 @@
-use Rattle.std.proofs.Common.{◌≡◌, take, length, Some, sym, ◌∙◌, ap, subst}
+use Rattle.std.proofs.Common.{◌≡◌, take, length, Some, None, Result, Ok, Err, MatchResult, sym, ◌∙◌, ap, subst}
+use Rattle.std.specs.Result.{result_ok}
 use Rattle.std.specs.Str.{IsUtf8}
 use Rattle.std.proofs.lemmas.List.{take_min}
-use Rattle.hr_scan.specs.Characters.{spelled}
-use Rattle.hr_scan.proofs.Characters.{char_at-complete, spelled_nothing, not_spelled, spelled_first, refused, accepted}
+use Rattle.hr_scan.proofs.Characters.{spelled_nothing, not_spelled, spelled_first}
 use Rattle.hr_scan.proofs.character.wide_character.Goals as goal
+
+refused : {A E : Type 0} (N : Type 0) (P : A → Type 0) (Q : E → Type 0) (r : Result A E) → MatchResult r P (λ e. N × Q e) → result_ok r ≡ None → N
+refused N P Q (Ok x) m e = absurd (cc)
+refused N P Q (Err x) m e = m.0
+
+accepted : {A E : Type 0} (P : A → Type 0) (Q : E → Type 0) (r : Result A E) (x : A) → MatchResult r P Q → result_ok r ≡ Some x → P x
+accepted P Q (Ok y) x m e = let same : y ≡ x = cc in subst P same m
+accepted P Q (Err y) x m e = absurd (cc)
 
 -- The bytes are no UTF-8.
 pub returns-in_err-ok : goal.returns-in_err-ok

@@ -1,4 +1,4 @@
-use Rattle.std.proofs.Common.{◌≡◌, ◌∙◌, ap, drop, arith}
+use Rattle.std.proofs.Common.{◌∙◌, ap, drop, arith}
 use Rattle.hr_scan.specs.Characters.{cell_len}
 use Rattle.hr_scan.proofs.Caps.{columns_grow, columns_end, columns-exact}
 use Rattle.hr_scan.proofs.Cells.{cell_len-pos}

@@ -1,5 +1,6 @@
 use Rattle.std.proofs.Common.{ap, ◌∙◌}
-use Rattle.hr_shelf.proofs.Entries.{located, lacks, holds}
+use Rattle.hr_shelf.proofs.FileMap.{lacks, holds}
+use Rattle.hr_shelf.proofs.Scan.{located}
 use Rattle.hr_shelf.proofs.memory_shelf.MemoryShelf.bytes.Goals as goal
 
 pub returns-in_err-place : goal.returns-in_err-place

@@ -1,5 +1,6 @@
 use Rattle.std.proofs.Common.{◌∙◌}
-use Rattle.hr_shelf.proofs.Entries.{located, sets, adds}
+use Rattle.hr_shelf.proofs.FileMap.{sets, adds}
+use Rattle.hr_shelf.proofs.Scan.{located}
 use Rattle.hr_shelf.proofs.memory_shelf.MemoryShelf.put.Goals as goal
 
 pub returns-in-Some-clause-puts : goal.returns-in-Some-clause-puts

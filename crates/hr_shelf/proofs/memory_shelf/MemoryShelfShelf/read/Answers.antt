@@ -1,7 +1,7 @@
 use Rattle.std.proofs.Common.{◌≡◌, true, is_some, Contains, ap, sym, ◌∙◌, rules}
 use Rattle.std.specs.FinMap as map
 use Rattle.std.specs.Option.{option_copied}
-use Rattle.hr_shelf.proofs.Entries.{key_of_has}
+use Rattle.hr_shelf.proofs.FileMap.{key_of_has}
 use Rattle.hr_shelf.proofs.memory_shelf.MemoryShelfShelf.read.Goals as goal
 
 pub returns-clause-gets_ready : goal.returns-clause-gets_ready

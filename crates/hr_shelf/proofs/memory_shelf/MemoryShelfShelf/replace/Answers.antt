@@ -1,7 +1,8 @@
 use Rattle.std.proofs.Common.{◌≡◌, ℕ, Option, Some, None, IsSome, Contains, ap, sym, refl, subst, ◌∙◌}
 use Rattle.std.specs.FinMap as map
 use Rattle.hr_shelf.specs.Outside.{Files}
-use Rattle.hr_shelf.proofs.Entries.{located, lacks, sets, key_has, key_stays}
+use Rattle.hr_shelf.proofs.FileMap.{lacks, sets, key_has, key_stays}
+use Rattle.hr_shelf.proofs.Scan.{located}
 use Rattle.hr_shelf.proofs.memory_shelf.MemoryShelfShelf.replace.Goals as goal
 
 some : (place : Option ℕ) → (place ≡ None → ⊥) → IsSome place

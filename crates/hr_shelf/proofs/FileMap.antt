@@ -1,15 +1,13 @@
--- Entries that are scanned from the front, and the map that they stand for.
-use Rattle.std.proofs.Common.{◌≡◌, ℕ, zero, suc, ◌+◌, ◌<◌, ◌≤◌, Bool, true, false, cond, not, List, [], ◌∷◌, ◌++◌, length, Option, Some, None, is_some, position, get_or, set, nat_lt, refl, sym, ap, subst, ◌∙◌, arith, Contains}
-use Rattle.std.proofs.lemmas.Bool.{ltb-true, ltb-false}
+-- The map of files that a list of entries stands for.
+use Rattle.std.proofs.Common.{◌≡◌, ℕ, zero, suc, Bool, true, false, cond, List, [], ◌∷◌, ◌++◌, Option, Some, None, is_some, position, get_or, set, refl, sym, ap, ◌∙◌, Contains}
 use Rattle.std.proofs.lemmas.Cmp.{nat_list_cmp_total, eq_by_cmp_equiv}
 use Rattle.std.proofs.lemmas.Map.Views.{list_any-from_Contains, Contains-from_any}
 use Rattle.std.proofs.lemmas.Slice.Eq.{bytes_eq-Decides}
 use Rattle.std.specs.Cmp.Lexicographic.{slice_cmp, texts_ties}
-use Rattle.std.specs.FinMap.{find, get, insert, from_entries, keys, same_map, from_entries_push, get-from_entries, get-insert, contains_key-keys, IsAntisymmetric, slice_cmp-IsAntisymmetric, nat_cmp-IsAntisymmetric}
-use Rattle.std.specs.List.{position_or_len}
+use Rattle.std.specs.FinMap.{get, insert, from_entries, keys, same_map, from_entries_push, get-from_entries, get-insert, contains_key-keys, IsAntisymmetric, slice_cmp-IsAntisymmetric, nat_cmp-IsAntisymmetric}
 use Rattle.std.specs.Ordering.{nat_cmp, eq_by_cmp}
-use Rattle.std.specs.Str.{bytes_eq}
 use Rattle.hr_shelf.specs.Outside.{Files}
+use Rattle.hr_shelf.proofs.Scan.{has_name, find_bytes, IsFirst, name_at, found_at, first_of, none_of}
 
 abbrev pub Entries : Type 0
 Entries = List (List ℕ × List ℕ)
@@ -17,71 +15,11 @@ Entries = List (List ℕ × List ℕ)
 abbrev pub same_name : List ℕ → List ℕ → Bool
 same_name = eq_by_cmp (slice_cmp nat_cmp)
 
-abbrev pub has_name : List ℕ → List ℕ × List ℕ → Bool
-has_name name entry = bytes_eq name entry.0
-
-abbrev pub find_bytes : List ℕ → Entries → Option (List ℕ)
-find_bytes = find (slice_cmp nat_cmp)
-
--- the entry at i is the first one with the name
-abbrev pub IsFirst : List ℕ → Entries → ℕ → Type 0
-IsFirst name [] i = ⊥
-IsFirst name (e ∷ es) zero = has_name name e ≡ true
-IsFirst name (e ∷ es) (suc i) = (has_name name e ≡ false) × IsFirst name es i
-
 exact_names : IsAntisymmetric (slice_cmp nat_cmp)
 exact_names = slice_cmp-IsAntisymmetric nat_cmp-IsAntisymmetric
 
 named : (x y : List ℕ) → same_name x y ≡ true → x ≡ y
 named x y e = (bytes_eq-Decides x y).0 (texts_ties x y ∙ e)
-
-name_at : (name : List ℕ) (es : Entries) (i : ℕ) (d : List ℕ × List ℕ) → IsFirst name es i → (get_or es i d).0 ≡ name
-name_at name [] i d h = absurd h
-name_at name (e ∷ es) zero d h = sym ((bytes_eq-Decides name e.0).0 h)
-name_at name (e ∷ es) (suc i) d h = name_at name es i d h.1
-
-found_at : (name : List ℕ) (es : Entries) (i : ℕ) (d : List ℕ × List ℕ) → IsFirst name es i → find_bytes name es ≡ Some (get_or es i d).1
-found_at name [] i d h = absurd h
-found_at name (e ∷ es) zero d h = ap (λ b. cond b (Some e.1) (find_bytes name es)) (sym (texts_ties name e.0) ∙ h)
-found_at name (e ∷ es) (suc i) d h = ap (λ b. cond b (Some e.1) (find_bytes name es)) (sym (texts_ties name e.0) ∙ h.0) ∙ found_at name es i d h.1
-
-first_below : (name : List ℕ) (es : Entries) → position_or_len (has_name name) es < length es → IsFirst name es (position_or_len (has_name name) es)
-first_below name [] h = absurd (omega arith)
-first_below name (e ∷ es) h =
-    let n : ℕ = position_or_len (has_name name) es in
-    elim (has_name name e) as (λ b. has_name name e ≡ b → cond (not b) (1 + n) 0 < suc (length es) → IsFirst name (e ∷ es) (cond (not b) (1 + n) 0)) [
-      | true ↦ λ is _. is
-      | false ↦ λ is below. let turned : suc n ≡ 1 + n = omega arith in subst (IsFirst name (e ∷ es)) turned (is, first_below name es (omega arith))
-    ] refl h
-
-none_past : (name : List ℕ) (es : Entries) → length es ≤ position_or_len (has_name name) es → find_bytes name es ≡ None
-none_past name [] h = refl
-none_past name (e ∷ es) h =
-    let n : ℕ = position_or_len (has_name name) es in
-    elim (has_name name e) as (λ b. has_name name e ≡ b → suc (length es) ≤ cond (not b) (1 + n) 0 → find_bytes name (e ∷ es) ≡ None) [
-      | true ↦ λ is past. absurd (omega arith)
-      | false ↦ λ is past. ap (λ b. cond b (Some e.1) (find_bytes name es)) (sym (texts_ties name e.0) ∙ is) ∙ none_past name es (omega arith)
-    ] refl h
-
-first_of : (name : List ℕ) (es : Entries) (i : ℕ) → position (has_name name) es ≡ Some i → IsFirst name es i
-first_of name es i is =
-    let n : ℕ = position_or_len (has_name name) es in
-    elim (nat_lt n (length es)) as (λ b. nat_lt n (length es) ≡ b → cond b (Some n) None ≡ Some i → IsFirst name es i) [
-      | true ↦ λ below here. let turned : n ≡ i = cc in subst (IsFirst name es) turned (first_below name es (ltb-true n (length es) below))
-      | false ↦ λ _ here. cc
-    ] refl is
-
-none_of : (name : List ℕ) (es : Entries) → position (has_name name) es ≡ None → find_bytes name es ≡ None
-none_of name es is =
-    let n : ℕ = position_or_len (has_name name) es in
-    elim (nat_lt n (length es)) as (λ b. nat_lt n (length es) ≡ b → ◌≡◌ {A = Option ℕ} (cond b (Some n) None) None → find_bytes name es ≡ None) [
-      | true ↦ λ _ here. cc
-      | false ↦ λ past _. none_past name es (ltb-false n (length es) past)
-    ] refl is
-
--- a place that was looked for by texts and entries that are the ones meant
-pub located : (asked name : List ℕ) (held es : Entries) (place : Option ℕ) → asked ≡ name → held ≡ es → place ≡ position (has_name asked) held → position (has_name name) es ≡ place
-located asked name held es place by in_these is = sym (is ∙ ap (λ n. position (has_name n) held) by ∙ ap (position (has_name name)) in_these)
 
 shadowed : (b c : Bool) (x y z : Option (List ℕ)) → b ≡ c → cond b x z ≡ cond b x (cond c y z)
 shadowed true c x y z e = refl

@@ -1,0 +1,19 @@
+//! The plain form of a module, until the whole language is read: equations over variables, integers,
+//! applications and parentheses; which variable binds which name; and the renaming of one.
+#![tactic(auto)]
+
+mod binding;
+mod equations;
+mod expressions;
+mod loading;
+mod renaming;
+mod rest;
+mod scoping;
+mod starts;
+mod writing;
+
+pub use loading::{LoadError, load};
+pub use renaming::{MODULE_LIMIT, Sought, Why, rename};
+
+#[cfg(test)]
+mod tests;

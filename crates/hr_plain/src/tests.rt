@@ -1,0 +1,129 @@
+use crate::{LoadError, Why, load, rename};
+use hr_base::{Pos, Text};
+use std::alloc::Global;
+use std::test::Fail;
+
+fn renamed(alloc: Global, text: &str, line: u32, col: u32, new: &str) -> Result<String, Fail> {
+    let tree = load(alloc, text.as_bytes())?;
+    let main = Text::from_slice(alloc, b"Main")?;
+    let new = Text::from_slice(alloc, new.as_bytes())?;
+    match rename(alloc, &tree, &main, Pos { line, col }, &new) {
+        Ok(text) => Ok(String::from_str(alloc, str::from_utf8(text.as_slice())?)?),
+        Err(why) => Ok(format!(in alloc; "{:?}", why.number())?),
+    }
+}
+
+#[test]
+fn names_are_renamed_where_they_are_bound_and_used(rt: HostRuntime) -> Result<(), Fail> {
+    let sums = "f x = g x 1   -- sums\ng a b = h (a) b\nh a b = f a\n";
+    let rows = [
+        (
+            sums,
+            1,
+            1,
+            "total",
+            "total x = g x 1   -- sums\ng a b = h (a) b\nh a b = total a\n",
+        ),
+        (
+            sums,
+            1,
+            3,
+            "y",
+            "f y = g y 1   -- sums\ng a b = h (a) b\nh a b = f a\n",
+        ),
+        (
+            sums,
+            2,
+            12,
+            "z",
+            "f x = g x 1   -- sums\ng z b = h (z) b\nh a b = f a\n",
+        ),
+        (
+            sums,
+            3,
+            11,
+            "z",
+            "f x = g x 1   -- sums\ng a b = h (a) b\nh z b = f z\n",
+        ),
+        (
+            sums,
+            2,
+            9,
+            "k",
+            "f x = g x 1   -- sums\ng a b = k (a) b\nk a b = f a\n",
+        ),
+        (sums, 1, 1, "h", "Some(58)"),
+        (sums, 1, 2, "k", "Some(31)"),
+        (sums, 1, 11, "k", "Some(31)"),
+        (sums, 2, 11, "k", "Some(31)"),
+        (sums, 1, 18, "k", "Some(31)"),
+        (sums, 9, 1, "k", "Some(31)"),
+        (sums, 1, 1, "where", "Some(33)"),
+        (sums, 1, 1, "K", "Some(33)"),
+        (
+            "y = 1\ng a b = a\nk = g 0y\n",
+            1,
+            1,
+            "xF",
+            "xF = 1\ng a b = a\nk = g 0 xF\n",
+        ),
+        (
+            "y = 1\ng a b = a\nk = g 0y\n",
+            3,
+            8,
+            "g1",
+            "g1 = 1\ng a b = a\nk = g 0g1\n",
+        ),
+        ("f f = f\n", 1, 3, "x", "f x = x\n"),
+        ("f f = f\n", 1, 1, "x", "x f = f\n"),
+        (
+            "f 0 = 1\nf x = f x\n",
+            2,
+            7,
+            "go",
+            "go 0 = 1\ngo x = go x\n",
+        ),
+    ];
+    for (text, line, col, new, want) in rows {
+        let answer = renamed(rt.alloc(), text, line, col, new)?;
+        assert_eq!(rt; answer.as_str(), want, "{new} at {line}:{col}");
+    }
+    Ok(())
+}
+
+#[test]
+fn texts_that_are_not_of_the_form(rt: HostRuntime) {
+    let rows = [
+        "f = [1]",
+        " f = 1",
+        "f = 1\n g = 2",
+        "f = 1\ng\n",
+        "f =\n1",
+        "f x x = 1",
+        "f = x",
+        "f = 1\ng = 2\nf = 3",
+        "1 = 2",
+        "f = ()",
+        "f = (1",
+        "f = 1)",
+        "f = 1 = 2",
+        "f (x) = 1",
+        "f",
+        "f =",
+        "= 1",
+    ];
+    for text in rows {
+        let answer = load(rt.alloc(), text.as_bytes());
+        assert!(rt; matches!(answer, Err(LoadError::NotBuilt)), "{text:?}");
+    }
+    for text in [
+        "",
+        "-- c",
+        "f = 1",
+        "f\n = 1",
+        "f x 1 y = x (y) (f 1)\nf 1 2 3 = 4 5",
+        "f f = f",
+    ] {
+        assert!(rt; load(rt.alloc(), text.as_bytes()).is_ok(), "{text:?}");
+    }
+}

@@ -1,0 +1,10 @@
+use Rattle.std.proofs.Common.{◌-◌, ◌≤◌, vec_len}
+use Rattle.std.specs.Io.KnownBytes.{Consumes}
+use Rattle.hr_shelf.proofs.stream.read_within.Given as goal
+
+abbrev pub invariant-loop-count : goal.invariant-loop-count
+invariant-loop-count g l =
+    record { consumed : Consumes (g.F.Read.remaining l.initial.file) (g.F.Read.remaining l.file) l.bytes.items; within : vec_len l.bytes ≤ l.limit }
+
+abbrev pub decreases-loop-count : goal.decreases-loop-count
+decreases-loop-count g l = l.limit - vec_len l.bytes
