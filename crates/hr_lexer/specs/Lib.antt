@@ -2,4 +2,5 @@ pub mod LexemeReader
 pub mod NameReader
 pub mod NumberReader
 pub mod QuoteReader
+pub mod Refusals
 pub mod TriviaReader

@@ -1,7 +1,8 @@
 //! Blanks and comments.
-ghost use Rattle.std.specs.Prelude.{◌≡◌, ◌<◌, ◌≤◌, false, length, IfSome};
+ghost use Rattle.std.specs.Prelude.{◌≡◌, ◌<◌, ◌≤◌, drop, false, length, IfSome};
 ghost use Rattle.std.specs.List.{prefix_len};
-ghost use Rattle.hr_rules.specs.Comments.{begins_line_comment, closed_len, goes_on, is_in_line};
+ghost use Rattle.hr_rules.specs.Comments.{begins_line_comment, closed_len, goes_on, is_in_line, opens, shuts};
+ghost use Rattle.hr_rules.specs.Runs.{begins_with};
 ghost use Rattle.hr_lexer.specs.TriviaReader.{line_comment_len, nested_comment_len, piece_len, trivia_len};
 
 use hr_rules::{Kind, is_newline, is_symbol, kind_of};
@@ -105,18 +106,51 @@ fn closed_len(text: &[char]) -> Option<usize>
     let mut depth: usize = 0;
     let mut rest = text;
     loop {
-        match rest {
-            [] => return None,
-            ['{', '-', tail @ ..] => {
-                depth += 1;
-                rest = tail;
+        let [c, tail @ ..] = rest else { return None };
+        if opens(*c, tail) {
+            depth += 1;
+            rest = past_mark(tail);
+        } else if shuts(*c, tail) {
+            rest = past_mark(tail);
+            if depth == 0 {
+                return Some(text.len() - rest.len());
             }
-            ['-', '}', tail @ ..] if depth == 0 => return Some(text.len() - tail.len()),
-            ['-', '}', tail @ ..] => {
-                depth -= 1;
-                rest = tail;
-            }
-            [_, tail @ ..] => rest = tail,
+            depth -= 1;
+        } else {
+            rest = tail;
         }
+    }
+}
+
+/// What is behind the second character of a mark.
+fn past_mark(text: &[char]) -> &[char]
+    ensures { result.now ≡ drop 1 text.now }
+{
+    match text {
+        [] => text,
+        [_, rest @ ..] => rest,
+    }
+}
+
+/// Whether the character and what follows begin with `{-`.
+pub fn opens(c: char, rest: &[char]) -> bool
+    ensures { result ≡ opens c rest.now }
+{
+    c == '{' && begins_with('-', rest)
+}
+
+/// Whether the character and what follows begin with `-}`.
+fn shuts(c: char, rest: &[char]) -> bool
+    ensures { result ≡ shuts c rest.now }
+{
+    c == '-' && begins_with('}', rest)
+}
+
+fn begins_with(c: char, text: &[char]) -> bool
+    ensures { result ≡ begins_with c text.now }
+{
+    match text {
+        [first, ..] => *first == c,
+        [] => false,
     }
 }

@@ -1,5 +1,7 @@
 //! Escapes and gaps, behind their backslash.
 ghost use Rattle.std.specs.Prelude.{◌≡◌, ◌<◌, ◌≤◌, length, IfSome};
+ghost use Rattle.std.specs.List.{prefix_len};
+ghost use Rattle.hr_rules.specs.Letters.{is_blank};
 ghost use Rattle.hr_rules.specs.Quotes.{code_len, control_len, escape_len, gap_len, is_code, is_control_letter, string_escape_len};
 
 use crate::numbers::{digits_len, value_capped};
@@ -42,7 +44,7 @@ pub fn string_escape_len(text: &[char]) -> Option<usize>
 fn gap_len(text: &[char]) -> Option<usize>
     ensures { result ≡ gap_len text.now }
 {
-    let blanks = text.iter().take_while(|c| is_blank_char(**c)).count();
+    let blanks = blank_len(text);
     if blanks == 0 {
         return None;
     }
@@ -51,6 +53,14 @@ fn gap_len(text: &[char]) -> Option<usize>
         ['\\', ..] => Some(blanks + 1),
         _ => None,
     }
+}
+
+/// How many blanks the text begins with.
+fn blank_len(text: &[char]) -> usize
+    ensures value { result ≡ prefix_len is_blank text.now }
+    ensures within { result ≤ length text.now }
+{
+    text.iter().take_while(|c| is_blank_char(**c)).count()
 }
 
 /// The length of a control's escape, behind its `^`.

@@ -1,10 +1,12 @@
 //! The lexer's one call.
-ghost use Rattle.std.specs.Prelude.{◌≡◌, ◌<◌, ◌≤◌, length, IfSome};
+ghost use Rattle.std.specs.Prelude.{◌≡◌, ◌<◌, ◌≤◌, length, IfErr, IfOk, IfSome};
 ghost use Rattle.std.specs.Str.{encode_utf8_all};
-ghost use Rattle.hr_lexer.specs.LexemeReader.{lexeme_at};
+ghost use Rattle.hr_rules.specs.Lexemes.{LexesText};
+ghost use Rattle.hr_lexer.specs.Refusals.{IsRefusal};
+ghost use Rattle.hr_lexer.specs.LexemeReader.{lexeme_at, special_at};
 
 use crate::LexError;
-use crate::comments::trivia_len;
+use crate::comments::{opens, trivia_len};
 use crate::names::{conid_at, symbols_at, word_at};
 use crate::numbers::number_at;
 use crate::quotes::{char_at_quote, string_at_quote};
@@ -18,7 +20,10 @@ use std::str;
 const LONGEST_TEXT: usize = 1_048_576;
 
 /// The items of a text.
-pub fn lex(alloc: Global, bytes: &[u8]) -> Result<Items, LexError> {
+pub fn lex(alloc: Global, bytes: &[u8]) -> Result<Items, LexError>
+    ensures read { IfOk result (λ items. LexesText bytes.now items) }
+    ensures refused { IfErr result (λ error. IsRefusal bytes.now error) }
+{
     if bytes.len() > LONGEST_TEXT {
         return Err(LexError::TooLong);
     }
@@ -116,7 +121,7 @@ fn lexeme_at(text: &[char]) -> Option<Taken>
         Kind::Small => Some(word_at(text)),
         Kind::Large => conid_at(text),
         Kind::Symbol => symbols_at(text),
-        Kind::Special => special_at(text),
+        Kind::Special => special_at(*first, rest),
         Kind::Digit => number_at(text),
         Kind::Quote => char_at_quote(rest),
         Kind::DoubleQuote => string_at_quote(rest),
@@ -125,14 +130,17 @@ fn lexeme_at(text: &[char]) -> Option<Taken>
 }
 
 /// A bracket, comma, semicolon or backquote, unless a nested comment begins.
-fn special_at(text: &[char]) -> Option<Taken> {
-    match text {
-        ['{', '-', ..] => None,
-        _ => Some(Taken {
-            class: Class::Special,
-            len: 1,
-        }),
+fn special_at(first: char, rest: &[char]) -> Option<Taken>
+    ensures value { result ≡ special_at first rest.now }
+    ensures some { IfSome result (λ taken. taken.len ≡ 1) }
+{
+    if opens(first, rest) {
+        return None;
     }
+    Some(Taken {
+        class: Class::Special,
+        len: 1,
+    })
 }
 
 /// Why nothing fits at the place, where this text is left.

@@ -101,11 +101,15 @@ fn begins_word(word: &[u8], text: &[char]) -> bool
 {
     let mut left = text;
     for byte in word {
-        let [c, rest @ ..] = left else { return false };
-        if u32::from(*c) != u32::from(*byte) {
-            return false;
+        match left {
+            [] => return false,
+            [c, rest @ ..] => {
+                if u32::from(*c) != u32::from(*byte) {
+                    return false;
+                }
+                left = rest;
+            }
         }
-        left = rest;
     }
     true
 }

@@ -8,3 +8,4 @@ pub mod Operators
 pub mod Qualified
 pub mod Quotes
 pub mod Runs
+pub mod Stops
