@@ -1,3 +1,4 @@
 pub mod Splits
 pub mod Statements
 pub mod Whole
+pub mod Words

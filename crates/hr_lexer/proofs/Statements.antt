@@ -12,7 +12,7 @@ use Rattle.hr_lexer.specs.TriviaReader.{piece_len, trivia_len}
 abbrev pub ReadsRight : Kind → Type 0
 ReadsRight kind = (c : ℕ) (rest : List ℕ) (taken : Taken) → kind_of c ≡ kind → lexeme_at_by kind c rest ≡ Some taken
     → (spelled_bars_by kind c rest ≡ false) × (0 < taken.len) × (taken.len ≤ length (c ∷ rest))
-        × (spelled_class (take taken.len (c ∷ rest)) (drop taken.len (c ∷ rest)) ≡ Some taken.class)
+    × (spelled_class (take taken.len (c ∷ rest)) (drop taken.len (c ∷ rest)) ≡ Some taken.class)
 
 -- and where a lexeme begins, one is read that is no shorter
 abbrev pub ReadsLongest : Kind → Type 0
@@ -36,7 +36,7 @@ PieceFound = (piece after : List ℕ) → spelled_piece piece after ≡ true →
 abbrev pub LexemeRight : Type 0
 LexemeRight = (text : List ℕ) (taken : Taken) → lexeme_at text ≡ Some taken
     → (spelled_bars text ≡ false) × (0 < taken.len) × (taken.len ≤ length text)
-        × (spelled_class (take taken.len text) (drop taken.len text) ≡ Some taken.class)
+    × (spelled_class (take taken.len text) (drop taken.len text) ≡ Some taken.class)
 
 abbrev pub LexemeLongest : Type 0
 LexemeLongest = (front after : List ℕ) → spelled_bars (front ++ after) ≡ false → IsSome (spelled_class front after)

@@ -21,8 +21,9 @@ pub record EachKind : Type 0 where
 -- no lexeme begins with a character of another kind
 nothing : (kind : Kind) → ((c : ℕ) (rest : List ℕ) → lexeme_at_by kind c rest ≡ None) → ((c : ℕ) (front after : List ℕ) → spelled_class_by kind c front after ≡ None) → Reads kind
 nothing kind no_lexeme no_class = record {
-    right = λ c rest taken k e. absurd (none_some (sym (no_lexeme c rest) ∙ e));
-    longest = λ c front after k free some. absurd (true≢false (sym some ∙ ap is_some (no_class c front after))) }
+  right = λ c rest taken k e. absurd (none_some (sym (no_lexeme c rest) ∙ e));
+  longest = λ c front after k free some. absurd (true≢false (sym some ∙ ap is_some (no_class c front after)));
+}
   where
     none_some : {A : Type 0} {x : A} → None ≡ Some x → ⊥
     none_some e = cc

@@ -9,8 +9,8 @@ mod names;
 mod numbers;
 mod quotes;
 mod source;
-mod taken;
 mod tables;
+mod taken;
 
 pub use error::LexError;
 pub use lexing::lex;

@@ -46,14 +46,26 @@ fn names_and_operators_are_whole_runs(rt: HostRuntime) -> Result<(), Fail> {
         rt.alloc(),
         &[
             (b"", ""),
-            (b"a'b _ _x cases case", "VarId a'b;ReservedId _;VarId _x;VarId cases;ReservedId case;"),
+            (
+                b"a'b _ _x cases case",
+                "VarId a'b;ReservedId _;VarId _x;VarId cases;ReservedId case;",
+            ),
             (b"asof as of", "VarId asof;VarId as;ReservedId of;"),
             (b"A A'b_0", "ConId A;ConId A'b_0;"),
             (b"a+b", "VarId a;VarSym +;VarId b;"),
-            (b": :: :+ .. . ... =", "ReservedOp :;ReservedOp ::;ConSym :+;ReservedOp ..;VarSym .;VarSym ...;ReservedOp =;"),
-            (b"= \\ | <- -> @ ~ => <-> ~= -", "ReservedOp =;ReservedOp \\;ReservedOp |;ReservedOp <-;ReservedOp ->;ReservedOp @;ReservedOp ~;ReservedOp =>;VarSym <->;VarSym ~=;VarSym -;"),
+            (
+                b": :: :+ .. . ... =",
+                "ReservedOp :;ReservedOp ::;ConSym :+;ReservedOp ..;VarSym .;VarSym ...;ReservedOp =;",
+            ),
+            (
+                b"= \\ | <- -> @ ~ => <-> ~= -",
+                "ReservedOp =;ReservedOp \\;ReservedOp |;ReservedOp <-;ReservedOp ->;ReservedOp @;ReservedOp ~;ReservedOp =>;VarSym <->;VarSym ~=;VarSym -;",
+            ),
             (b"\\x->x", "ReservedOp \\;VarId x;ReservedOp ->;VarId x;"),
-            (b"(),;[]`{}", "Special (;Special );Special ,;Special ;;Special [;Special ];Special `;Special {;Special };"),
+            (
+                b"(),;[]`{}",
+                "Special (;Special );Special ,;Special ;;Special [;Special ];Special `;Special {;Special };",
+            ),
         ],
     )?;
     Ok(())
@@ -65,11 +77,20 @@ fn a_qualified_name_is_one_lexeme(rt: HostRuntime) -> Result<(), Fail> {
         &rt,
         rt.alloc(),
         &[
-            (b"F.g f.g F.. F. x", "QVarId F.g;VarId f;VarSym .;VarId g;QVarSym F..;ConId F;VarSym .;VarId x;"),
+            (
+                b"F.g f.g F.. F. x",
+                "QVarId F.g;VarId f;VarSym .;VarId g;QVarSym F..;ConId F;VarSym .;VarId x;",
+            ),
             (b"F.G.x", "QConId F.G;VarSym .;VarId x;"),
             (b"F.:+ F.+ F.G", "QConSym F.:+;QVarSym F.+;QConId F.G;"),
-            (b"F.= F.: F.-> F.-->", "ConId F;VarSym .=;ConId F;VarSym .:;ConId F;VarSym .->;QVarSym F.-->;"),
-            (b"F.-- F.- F.1 F.(", "ConId F;VarSym .--;QVarSym F.-;ConId F;VarSym .;Integer 1;ConId F;VarSym .;Special (;"),
+            (
+                b"F.= F.: F.-> F.-->",
+                "ConId F;VarSym .=;ConId F;VarSym .:;ConId F;VarSym .->;QVarSym F.-->;",
+            ),
+            (
+                b"F.-- F.- F.1 F.(",
+                "ConId F;VarSym .--;QVarSym F.-;ConId F;VarSym .;Integer 1;ConId F;VarSym .;Special (;",
+            ),
             (b"F...", "ConId F;VarSym ...;"),
             (b"F.where", "2 at 0"),
             (b"F.wherex F.as", "QVarId F.wherex;QVarId F.as;"),
@@ -118,12 +139,18 @@ fn numbers_are_read_as_far_as_they_go(rt: HostRuntime) -> Result<(), Fail> {
         rt.alloc(),
         &[
             (b"0 007 12", "Integer 0;Integer 007;Integer 12;"),
-            (b"0x1F 0XaB 0o17 0O7", "Integer 0x1F;Integer 0XaB;Integer 0o17;Integer 0O7;"),
+            (
+                b"0x1F 0XaB 0o17 0O7",
+                "Integer 0x1F;Integer 0XaB;Integer 0o17;Integer 0O7;",
+            ),
             (b"0x", "Integer 0;VarId x;"),
             (b"0b1", "Integer 0;VarId b1;"),
             (b"0xg", "Integer 0;VarId xg;"),
             (b"0o78", "Integer 0o7;Integer 8;"),
-            (b"1.5 1e5 1.5E-3 1e+5", "Float 1.5;Float 1e5;Float 1.5E-3;Float 1e+5;"),
+            (
+                b"1.5 1e5 1.5E-3 1e+5",
+                "Float 1.5;Float 1e5;Float 1.5E-3;Float 1e+5;",
+            ),
             (b"1.e", "Integer 1;VarSym .;VarId e;"),
             (b"1e", "Integer 1;VarId e;"),
             (b"1.5e+", "Float 1.5;VarId e;VarSym +;"),
@@ -132,13 +159,19 @@ fn numbers_are_read_as_far_as_they_go(rt: HostRuntime) -> Result<(), Fail> {
             (b"x = 9223372036854775808", "4 at 4"),
             (b"0x7fffffffffffffff", "Integer 0x7fffffffffffffff;"),
             (b"0x8000000000000000", "4 at 0"),
-            (b"0o777777777777777777777", "Integer 0o777777777777777777777;"),
+            (
+                b"0o777777777777777777777",
+                "Integer 0o777777777777777777777;",
+            ),
             (b"0o1000000000000000000000", "4 at 0"),
             (b"99999999999999999999.5", "Float 99999999999999999999.5;"),
             (b"99999999999999999999e1", "Float 99999999999999999999e1;"),
             (b"99999999999999999999.x", "4 at 0"),
             (b"99999999999999999999ex", "4 at 0"),
-            (b"00000000000000000000000001", "Integer 00000000000000000000000001;"),
+            (
+                b"00000000000000000000000001",
+                "Integer 00000000000000000000000001;",
+            ),
         ],
     )?;
     Ok(())
@@ -150,12 +183,27 @@ fn characters_hold_one_character_or_escape(rt: HostRuntime) -> Result<(), Fail> 
         &rt,
         rt.alloc(),
         &[
-            (b"'a' ' ' '\"' '\xC3\xA9'", "Char 'a';Char ' ';Char '\"';Char '\u{E9}';"),
-            (b"'\\a' '\\b' '\\f' '\\n' '\\r' '\\t' '\\v' '\\\\' '\\\"' '\\''", "Char '\\a';Char '\\b';Char '\\f';Char '\\n';Char '\\r';Char '\\t';Char '\\v';Char '\\\\';Char '\\\"';Char '\\'';"),
-            (b"'\\SOH' '\\SO' '\\DEL' '\\SP' '\\US'", "Char '\\SOH';Char '\\SO';Char '\\DEL';Char '\\SP';Char '\\US';"),
-            (b"'\\^A' '\\^@' '\\^_' '\\^Z'", "Char '\\^A';Char '\\^@';Char '\\^_';Char '\\^Z';"),
+            (
+                b"'a' ' ' '\"' '\xC3\xA9'",
+                "Char 'a';Char ' ';Char '\"';Char '\u{E9}';",
+            ),
+            (
+                b"'\\a' '\\b' '\\f' '\\n' '\\r' '\\t' '\\v' '\\\\' '\\\"' '\\''",
+                "Char '\\a';Char '\\b';Char '\\f';Char '\\n';Char '\\r';Char '\\t';Char '\\v';Char '\\\\';Char '\\\"';Char '\\'';",
+            ),
+            (
+                b"'\\SOH' '\\SO' '\\DEL' '\\SP' '\\US'",
+                "Char '\\SOH';Char '\\SO';Char '\\DEL';Char '\\SP';Char '\\US';",
+            ),
+            (
+                b"'\\^A' '\\^@' '\\^_' '\\^Z'",
+                "Char '\\^A';Char '\\^@';Char '\\^_';Char '\\^Z';",
+            ),
             (b"'\\^a'", "2 at 0"),
-            (b"'\\0' '\\o17' '\\xFF' '\\1114111' '\\x10FFFF'", "Char '\\0';Char '\\o17';Char '\\xFF';Char '\\1114111';Char '\\x10FFFF';"),
+            (
+                b"'\\0' '\\o17' '\\xFF' '\\1114111' '\\x10FFFF'",
+                "Char '\\0';Char '\\o17';Char '\\xFF';Char '\\1114111';Char '\\x10FFFF';",
+            ),
             (b"'\\1114112'", "2 at 0"),
             (b"'\\xD7FF' '\\xE000'", "Char '\\xD7FF';Char '\\xE000';"),
             (b"'\\xD800'", "2 at 0"),
@@ -170,7 +218,10 @@ fn characters_hold_one_character_or_escape(rt: HostRuntime) -> Result<(), Fail> 
             (b"'\t'", "2 at 0"),
             (b"'\x7F'", "2 at 0"),
             (b"'\xC2\x85'", "2 at 0"),
-            (b"'\xE2\x80\xA8' '\xEF\xBB\xBF'", "Char '\u{2028}';Char '\u{FEFF}';"),
+            (
+                b"'\xE2\x80\xA8' '\xEF\xBB\xBF'",
+                "Char '\u{2028}';Char '\u{FEFF}';",
+            ),
         ],
     )?;
     Ok(())

@@ -6,9 +6,11 @@ mod character;
 mod items;
 mod laws;
 
-pub use character::{Kind, continues_name, is_blank_char, is_in_name, is_newline, is_symbol, kind_of};
+pub use character::{
+    Kind, continues_name, is_blank_char, is_in_name, is_newline, is_symbol, kind_of,
+};
 pub use items::join;
 pub use laws::{
-    lexings_join, one_lexing, one_reading, one_stop, readings_join, rules_keep_apart, stopped_has_none,
-    stops_have_none,
+    lexings_join, one_lexing, one_reading, one_stop, readings_join, rules_keep_apart,
+    stopped_has_none, stops_have_none,
 };
