@@ -1,4 +1,4 @@
-use Rattle.std.proofs.Common.{◌≡◌, ◌<◌, ℕ, ◌+◌, List, map, get_or, zero-add}
+use Rattle.std.proofs.Common.{◌≡◌, ◌<◌, ℕ, map, get_or, zero-add}
 use Rattle.std.specs.List.{range_with_len}
 use Rattle.std.proofs.lemmas.List.FromFn.{get_or-map-range_with_len}
 use Rattle.hr_rules.specs.declared.character.Kind.{Kind}
