@@ -7,6 +7,8 @@ mod error;
 mod resolving;
 mod sequence;
 mod stack;
+#[cfg(test)]
+mod tests;
 mod tree;
 
 pub use error::FixityError;
