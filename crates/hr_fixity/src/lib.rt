@@ -4,6 +4,7 @@
 
 mod blame;
 mod error;
+mod laws;
 mod resolving;
 mod sequence;
 mod stack;
@@ -12,6 +13,7 @@ mod tests;
 mod tree;
 
 pub use error::FixityError;
+pub use laws::one_tree;
 pub use resolving::resolve;
 pub use sequence::{Direction, Fixity, Infix, Part};
 pub use tree::Graded;
