@@ -1,3 +1,6 @@
 pub mod Turns
 pub mod Running
 pub mod Complete
+pub mod Sound
+pub mod Closing
+pub mod Whole
