@@ -4,3 +4,4 @@ pub mod Complete
 pub mod Sound
 pub mod Closing
 pub mod Whole
+pub mod Rooted
