@@ -5,3 +5,4 @@ pub mod Sound
 pub mod Closing
 pub mod Whole
 pub mod Rooted
+pub mod Shown
