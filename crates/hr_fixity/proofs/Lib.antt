@@ -6,3 +6,4 @@ pub mod Closing
 pub mod Whole
 pub mod Rooted
 pub mod Shown
+pub mod Refusals

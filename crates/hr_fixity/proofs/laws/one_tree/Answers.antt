@@ -1,4 +1,4 @@
-use Rattle.hr_fixity.proofs.Shown.{left_there}
+use Rattle.hr_fixity.proofs.Refusals.{refused}
 use Rattle.hr_fixity.proofs.Complete.{complete, finishes_once}
 use Rattle.hr_fixity.proofs.laws.one_tree.Goals as goal
 
