@@ -7,3 +7,4 @@ pub mod Whole
 pub mod Rooted
 pub mod Shown
 pub mod Refusals
+pub mod Answered

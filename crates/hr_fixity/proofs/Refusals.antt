@@ -167,3 +167,10 @@ module _ (seq : Infix) (is : IsSequence seq) (k : ℕ) (q : Part) (os : List Ope
       refused = λ t r. stuck_front seq.root (take (suc k) seq.parts) (drop (suc k) seq.parts) t (stuck e)
           (subst (λ ps. Finishes seq.root ps t) (sym (take-append-drop (suc k) seq.parts)) (complete seq.root seq.parts t r.graded r.rooted));
     }
+
+pub run_more : (root : Option ℕ) (ps : List Part) (k : ℕ) (q : Part) (os rest : List Open) (b : Bool) → slice_get ps k ≡ Some q → run root 0 (take k ps) [] ≡ Some os
+  → step root k q os ≡ cond b (Some rest) None → b ≡ true → run root 0 (take (k + 1) ps) [] ≡ Some rest
+run_more root ps k q os rest b here runs taken is_true =
+    let c : Cut ps k q = cut ps k q here in
+    let e : k + 1 ≡ suc k = omega arith in
+    ap (λ n. run root 0 (take n ps) []) e ∙ ap (λ qs. run root 0 qs []) c.more ∙ run_last root (take k ps) k q os c.long runs ∙ taken ∙ ap (λ a. cond a (Some rest) None) is_true

@@ -1,9 +1,10 @@
 -- A reader of sequences with a stack of open operators, the innermost first: what `resolve` computes.
-use Rattle.std.specs.Prelude.{ℕ, suc, ◌-◌, ◌==◌, nat_lt, Bool, true, false, not, if◌then◌else◌, List, [], ◌∷◌, Option, Some, None}
+use Rattle.std.specs.Prelude.{◌≡◌, ℕ, suc, ◌-◌, ◌==◌, nat_lt, Bool, true, false, not, if◌then◌else◌, List, [], ◌∷◌, take, slice_get, Option, Some, None}
 use Rattle.std.specs.Option.{option_and_then}
 use Rattle.hr_fixity.specs.declared.sequence.Direction.{Direction}
 use Rattle.hr_fixity.specs.declared.sequence.Direction.TheVariants.{Left, Right, Neither}
 use Rattle.hr_fixity.specs.declared.sequence.Fixity.{Fixity}
+use Rattle.hr_fixity.specs.declared.sequence.Infix.{Infix}
 use Rattle.hr_fixity.specs.declared.sequence.Part.{Part}
 use Rattle.hr_fixity.specs.declared.sequence.Part.TheVariants as part
 use Rattle.hr_fixity.specs.declared.stack.Open.{Open}
@@ -89,3 +90,11 @@ step root n (part.Operator p f) os = open_operator root n f (left_of os (tree.Op
 abbrev pub run : Option ℕ → ℕ → List Part → List Open → Option (List Open)
 run root n [] os = Some os
 run root n (p ∷ ps) os = option_and_then (run root (suc n) ps) (step root n p os)
+
+-- the first part that can't be taken has this number
+pub record StopsAt (seq : Infix) (number : ℕ) : Type 0 where
+  pub part : Part
+  pub stack : List Open
+  pub stands : slice_get seq.parts number ≡ Some part
+  pub taken : run seq.root 0 (take number seq.parts) [] ≡ Some stack
+  pub stops : step seq.root number part stack ≡ None

@@ -1,4 +1,4 @@
-ghost use Rattle.std.specs.Prelude.{◌≡◌, ℕ, ◌<◌, ◌^◌, ◌-◌, length, IfOk, IfErr, MatchResult, if◌then◌else◌, None, Some};
+ghost use Rattle.std.specs.Prelude.{◌≡◌, ℕ, ◌<◌, ◌^◌, ◌-◌, length, IfOk, IfErr, MatchOption, MatchResult, [], if◌then◌else◌, None, Some};
 ghost use Rattle.hr_fixity.specs.Reader as reader;
 ghost use Rattle.hr_fixity.specs.Resolved.{IsResolved, IsRefused, IsMemory};
 ghost use Rattle.hr_fixity.specs.Sequence.{IsSequence, IsBehindOperand};
@@ -59,6 +59,20 @@ fn take_part(alloc: Global, stack: &mut Stack, root: Option<u32>, number: u32, p
     }
 }
 
+/// Takes the parts in order, up to the first that has no place: its number is the answer.
+fn take_parts(alloc: Global, stack: &mut Stack, seq: &Infix) -> Result<Option<usize>, AllocError>
+    requires sequence { IsSequence seq.now }
+    requires fresh { stack.old ≡ [] }
+    ensures { IfOk result (λ stop. MatchOption stop (reader.run seq.now.root 0 seq.now.parts [] ≡ Some stack.new) (reader.StopsAt seq.now)) }
+{
+    for (number, part) in seq.parts.as_slice().iter().enumerate() {
+        if !take_part(alloc, stack, seq.root, number as u32, part)? {
+            return Ok(Some(number));
+        }
+    }
+    Ok(None)
+}
+
 /// The tree of a sequence.
 pub fn resolve(alloc: Global, seq: &Infix) -> Result<Graded, FixityError>
     requires { IsSequence seq.now }
@@ -68,11 +82,15 @@ pub fn resolve(alloc: Global, seq: &Infix) -> Result<Graded, FixityError>
 {
     let parts = seq.parts.as_slice();
     let mut stack = Stack::new(alloc);
-    for (number, part) in parts.iter().enumerate() {
-        if !take_part(alloc, &mut stack, seq.root, number as u32, part).map_err(FixityError::Memory)? {
-            return Err(conflict(parts.split_at(number).0, part));
+    match take_parts(alloc, &mut stack, seq) {
+        Ok(None) => {
+            let operand = Graded::Operand((parts.len() - 1) as u32);
+            match stack.close_all(alloc, operand) {
+                Ok(tree) => Ok(tree),
+                Err(error) => Err(FixityError::Memory(error)),
+            }
         }
+        Ok(Some(number)) => Err(conflict(parts.split_at(number).0, &parts[number])),
+        Err(error) => Err(FixityError::Memory(error)),
     }
-    let operand = Graded::Operand((parts.len() - 1) as u32);
-    stack.close_all(alloc, operand).map_err(FixityError::Memory)
 }

@@ -1,4 +1,3 @@
-use Rattle.hr_fixity.proofs.Refusals.{refused}
 use Rattle.hr_fixity.proofs.Complete.{complete, finishes_once}
 use Rattle.hr_fixity.proofs.laws.one_tree.Goals as goal
 
