@@ -43,7 +43,7 @@ module _ (seq : Infix) (is : IsSequence seq) where
     conflict : (error : FixityError) → Shows before q error → IsConflict seq error
     conflict error shows =
         refused seq is k stop.part stop.stack stop.stands stop.taken error stop.stops
-          (subst (λ ps. Shows ps stop.part error) front (subst (λ p. Shows before p error) here shows))
+        (subst (λ ps. Shows ps stop.part error) front (subst (λ p. Shows before p error) here shows))
 
     pub refusal : (error : FixityError) → Shows before q error → IsRefused seq error
     refusal (FixityConflict left right) shows = conflict (FixityConflict left right) shows

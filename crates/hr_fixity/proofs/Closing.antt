@@ -80,37 +80,37 @@ length-one ps q = omega (arith, length-append ps (q ∷ []))
 pub closing : {os : List Open} {ps : List Part} → Spine os ps → Closing os ps
 closing bottom = tt
 closing (operator os ps ls p f l s opens small fit) = λ qs t h. record {
-    front = ps;
-    back = ls ++ (part.Operator p f ∷ qs);
-    spine = s;
-    same = sym (append_assoc ps (ls ++ (part.Operator p f ∷ [])) qs ∙ ap (λ r. ps ++ r) (append_assoc ls (part.Operator p f ∷ []) qs));
-    node = joins f.direction f.level (length ps) p ls qs l t fit
-        (subst (λ n. RightOperand f.direction f.level n qs t) (length-operator ps ls (part.Operator p f)) h);
-    opens = opens;
-    small = small;
-  }
+  front = ps;
+  back = ls ++ (part.Operator p f ∷ qs);
+  spine = s;
+  same = sym (append_assoc ps (ls ++ (part.Operator p f ∷ [])) qs ∙ ap (λ r. ps ++ r) (append_assoc ls (part.Operator p f ∷ []) qs));
+  node = joins f.direction f.level (length ps) p ls qs l t fit
+      (subst (λ n. RightOperand f.direction f.level n qs t) (length-operator ps ls (part.Operator p f)) h);
+  opens = opens;
+  small = small;
+}
 closing (negation os ps p s opens) = λ qs t h. record {
-    front = ps;
-    back = part.Minus p ∷ qs;
-    spine = s;
-    same = sym (append_assoc ps (part.Minus p ∷ []) qs);
-    node = g.minus (length ps) qs t p (subst (λ n. Derives (Any 7) n qs t) (length-one ps (part.Minus p)) h);
-    opens = opens;
-    small = omega arith;
-  }
+  front = ps;
+  back = part.Minus p ∷ qs;
+  spine = s;
+  same = sym (append_assoc ps (part.Minus p ∷ []) qs);
+  node = g.minus (length ps) qs t p (subst (λ n. Derives (Any 7) n qs t) (length-one ps (part.Minus p)) h);
+  opens = opens;
+  small = omega arith;
+}
 closing (literal os ps p s opens) = λ qs t h. record {
-    front = ps;
-    back = part.PatternMinus p ∷ qs;
-    spine = s;
-    same = sym (append_assoc ps (part.PatternMinus p ∷ []) qs);
-    node =
-        let e : tree.Operand (suc (length ps)) ≡ t = ap tree.Operand (sym (length-one ps (part.PatternMinus p))) ∙ sym h.1 in
-        let one : Derives (LeftOnly 6) (length ps) (part.PatternMinus p ∷ part.Operand ∷ []) (tree.Negated (length ps) (tree.Operand (suc (length ps)))) = g.pattern_minus (length ps) p in
-        let two : Derives (LeftOnly 6) (length ps) (part.PatternMinus p ∷ part.Operand ∷ []) (tree.Negated (length ps) t) = subst (λ u. Derives (LeftOnly 6) (length ps) (part.PatternMinus p ∷ part.Operand ∷ []) (tree.Negated (length ps) u)) e one in
-        subst (λ rs. Derives (LeftOnly 6) (length ps) (part.PatternMinus p ∷ rs) (tree.Negated (length ps) t)) (sym h.0) two;
-    opens = opens;
-    small = omega arith;
-  }
+  front = ps;
+  back = part.PatternMinus p ∷ qs;
+  spine = s;
+  same = sym (append_assoc ps (part.PatternMinus p ∷ []) qs);
+  node =
+      let e : tree.Operand (suc (length ps)) ≡ t = ap tree.Operand (sym (length-one ps (part.PatternMinus p))) ∙ sym h.1 in
+      let one : Derives (LeftOnly 6) (length ps) (part.PatternMinus p ∷ part.Operand ∷ []) (tree.Negated (length ps) (tree.Operand (suc (length ps)))) = g.pattern_minus (length ps) p in
+      let two : Derives (LeftOnly 6) (length ps) (part.PatternMinus p ∷ part.Operand ∷ []) (tree.Negated (length ps) t) = subst (λ u. Derives (LeftOnly 6) (length ps) (part.PatternMinus p ∷ part.Operand ∷ []) (tree.Negated (length ps) u)) e one in
+      subst (λ rs. Derives (LeftOnly 6) (length ps) (part.PatternMinus p ∷ rs) (tree.Negated (length ps) t)) (sym h.0) two;
+  opens = opens;
+  small = omega arith;
+}
 
 -- the left operand of an operator, and the stack that the operator opens on
 pub record LeftRead (ps qs : List Part) (f : Fixity) (os : List Open) (l : Graded) : Type 0 where
@@ -130,14 +130,14 @@ left_same ps qs as_ bs f None e h = tt
 left_same ps qs as_ bs f (Some (os, l)) e h = record { front = h.front; back = h.back; spine = h.spine; same = h.same ∙ e; fit = h.fit; opens = h.opens }
 
 pub left_sound : (os : List Open) (ps qs : List Part) (t : Graded) (f : Fixity) → Spine os ps → Fit os (length ps) qs t → LeftOperand f.direction f.level (length ps) qs t
-  → LeftSound ps qs f (left_of os t f)
+    → LeftSound ps qs f (left_of os t f)
 left_sound [] ps qs t f s fit l = record { front = ps; back = qs; spine = s; same = refl; fit = l; opens = refl }
 left_sound (o ∷ os) ps qs t f s fit l =
     let c : Closed o os ps qs t = closing s qs t fit in
     by (turn_of o f) refl (λ e. left_same ps qs c.front c.back f (left_of os (close o t) f) c.same
-      (left_sound os c.front c.back (close o t) f c.spine
-        (fit_node os (fixity_of o) (length c.front) c.back (close o t) c.small c.opens c.node)
-        (node_left (fixity_of o) f (length c.front) c.back (close o t) c.small (turn_closes o f e) c.node)))
+    (left_sound os c.front c.back (close o t) f c.spine
+    (fit_node os (fixity_of o) (length c.front) c.back (close o t) c.small c.opens c.node)
+    (node_left (fixity_of o) f (length c.front) c.back (close o t) c.small (turn_closes o f e) c.node)))
   where
     by : (u : Turn) → turn_of o f ≡ u → (turn_of o f ≡ Closes → LeftSound ps qs f (left_of os (close o t) f)) → LeftSound ps qs f (by_turn u (left_of os (close o t) f) (Some (o ∷ os, t)) None)
     by Closes e next = next e
@@ -158,4 +158,4 @@ close_all_sound [] ps qs t s fit =
 close_all_sound (o ∷ os) ps qs t s fit =
     let c : Closed o os ps qs t = closing s qs t fit in
     subst (λ rs. Derives (Any 0) 0 rs (close_all os (close o t))) c.same
-      (close_all_sound os c.front c.back (close o t) c.spine (fit_node os (fixity_of o) (length c.front) c.back (close o t) c.small c.opens c.node))
+    (close_all_sound os c.front c.back (close o t) c.spine (fit_node os (fixity_of o) (length c.front) c.back (close o t) c.small c.opens c.node))

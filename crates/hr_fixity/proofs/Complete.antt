@@ -57,18 +57,18 @@ free_right root n n' m o os le free r e = by (free r e)
 
 -- an operator between what its operands read
 pub binary : (root : Option ℕ) (x y z : Nonterminal) (n : ℕ) (p : _) (f : Fixity) (ls rs : List Part) (l r : Graded) (os : List Open)
-  → Reads root y n ls l os → Reads root z (suc (n + length ls)) rs r (open_.Operator (n + length ls) f l ∷ os)
-  → keeps_root root (n + length ls) (is_empty os) ≡ true → turn_at os f ≡ Opens → Looser y f
-  → ((g : Fixity) → Looser x g → (turn_between f g ≡ Closes) × Looser z g)
-  → Reads root x n (ls ++ (part.Operator p f ∷ rs)) (tree.Binary (n + length ls) l r) os
+    → Reads root y n ls l os → Reads root z (suc (n + length ls)) rs r (open_.Operator (n + length ls) f l ∷ os)
+    → keeps_root root (n + length ls) (is_empty os) ≡ true → turn_at os f ≡ Opens → Looser y f
+    → ((g : Fixity) → Looser x g → (turn_between f g ≡ Closes) × Looser z g)
+    → Reads root x n (ls ++ (part.Operator p f ∷ rs)) (tree.Binary (n + length ls) l r) os
 binary root x y z n p f ls rs l r os before behind keeps opens looser down = record {
-    edge = behind.edge ++ (o ∷ []);
-    runs = run-append root n k ls (part.Operator p f ∷ rs) os refl ∙ ap (option_and_then (run root k (part.Operator p f ∷ rs))) before.runs
-        ∙ ap (option_and_then (run root (suc k) rs)) (step-operator root k p f before.edge os l (before.closes f looser) before.whole opens keeps)
-        ∙ behind.runs ∙ ap Some (sym (append_assoc behind.edge (o ∷ []) os));
-    whole = ap (λ i. close_all (behind.edge ++ (o ∷ [])) (tree.Operand i)) last ∙ close_all-append behind.edge o (tree.Operand (suc k + length rs - 1)) ∙ ap (close o) behind.whole;
-    closes = λ g h. AllClose-append behind.edge o g (behind.closes g (down g h).1) (down g h).0;
-  }
+  edge = behind.edge ++ (o ∷ []);
+  runs = run-append root n k ls (part.Operator p f ∷ rs) os refl ∙ ap (option_and_then (run root k (part.Operator p f ∷ rs))) before.runs
+      ∙ ap (option_and_then (run root (suc k) rs)) (step-operator root k p f before.edge os l (before.closes f looser) before.whole opens keeps)
+      ∙ behind.runs ∙ ap Some (sym (append_assoc behind.edge (o ∷ []) os));
+  whole = ap (λ i. close_all (behind.edge ++ (o ∷ [])) (tree.Operand i)) last ∙ close_all-append behind.edge o (tree.Operand (suc k + length rs - 1)) ∙ ap (close o) behind.whole;
+  closes = λ g h. AllClose-append behind.edge o g (behind.closes g (down g h).1) (down g h).0;
+}
   where
     k : ℕ
     k = n + length ls
@@ -80,7 +80,7 @@ binary root x y z n p f ls rs l r os before behind keeps opens looser down = rec
     last = omega (arith, length-append ls (part.Operator p f ∷ rs))
 
 looser_than : (root : Option ℕ) (x y : Nonterminal) (n : ℕ) (ps : List Part) (t : Graded) (os : List Open) → ((f : Fixity) → Looser x f → Looser y f)
-  → Reads root y n ps t os → Reads root x n ps t os
+    → Reads root y n ps t os → Reads root x n ps t os
 looser_than root x y n ps t os looser r = record { edge = r.edge; runs = r.runs; whole = r.whole; closes = λ f h. r.closes f (looser f h) }
 
 free_minus : (root : Option ℕ) (n : ℕ) (p : Part) (ps : List Part) (o : Open) (os : List Open) → Free root n (n + length (p ∷ ps)) os → Free root (suc n) (suc n + length ps) (o ∷ os)
@@ -92,10 +92,10 @@ free_before : (root : Option ℕ) (n : ℕ) (ls rs : List Part) (q : Part) (os :
 free_before root n ls rs q os free = free_left root n (n + length (ls ++ (q ∷ rs))) (n + length ls) os (omega (arith, length-append ls (q ∷ rs))) free
 
 free_behind : (root : Option ℕ) (n : ℕ) (ls rs : List Part) (q : Part) (o : Open) (os : List Open) → Free root n (n + length (ls ++ (q ∷ rs))) os
-  → Free root (suc (n + length ls)) (suc (n + length ls) + length rs) (o ∷ os)
+    → Free root (suc (n + length ls)) (suc (n + length ls) + length rs) (o ∷ os)
 free_behind root n ls rs q o os free =
     free_left root (suc (n + length ls)) (n + length (ls ++ (q ∷ rs))) (suc (n + length ls) + length rs) (o ∷ os) (omega (arith, length-append ls (q ∷ rs)))
-      (free_right root n (suc (n + length ls)) (n + length (ls ++ (q ∷ rs))) o os (omega arith) free)
+    (free_right root n (suc (n + length ls)) (n + length (ls ++ (q ∷ rs))) o os (omega arith) free)
 
 keeps_between : (root : Option ℕ) (n : ℕ) (ls rs : List Part) (q : Part) (os : List Open) → Free root n (n + length (ls ++ (q ∷ rs))) os → keeps_root root (n + length ls) (is_empty os) ≡ true
 keeps_between root n ls rs q os free =
@@ -115,13 +115,13 @@ within_right i f (inr h) = let e : f.level ≡ i = h.0 in omega arith
 
 -- a prefix minus before what its operand reads
 pub negation : (root : Option ℕ) (n : ℕ) (p : _) (ps : List Part) (t : Graded) (os : List Open) → turn_at os reader.minus ≡ Opens
-  → Reads root (Any 7) (suc n) ps t (open_.Minus n ∷ os) → Reads root (LeftOnly 6) n (part.Minus p ∷ ps) (tree.Negated n t) os
+    → Reads root (Any 7) (suc n) ps t (open_.Minus n ∷ os) → Reads root (LeftOnly 6) n (part.Minus p ∷ ps) (tree.Negated n t) os
 negation root n p ps t os opens r = record {
-    edge = r.edge ++ (open_.Minus n ∷ []);
-    runs = ap (option_and_then (run root (suc n) ps)) opened ∙ r.runs ∙ ap Some (sym (append_assoc r.edge (open_.Minus n ∷ []) os));
-    whole = ap (λ i. close_all (r.edge ++ (open_.Minus n ∷ [])) (tree.Operand i)) last ∙ close_all-append r.edge (open_.Minus n) (tree.Operand (suc n + length ps - 1)) ∙ ap (tree.Negated n) r.whole;
-    closes = λ g h. AllClose-append r.edge (open_.Minus n) g (r.closes g (next_level 6 g h)) (closes_left reader.minus g refl h);
-  }
+  edge = r.edge ++ (open_.Minus n ∷ []);
+  runs = ap (option_and_then (run root (suc n) ps)) opened ∙ r.runs ∙ ap Some (sym (append_assoc r.edge (open_.Minus n ∷ []) os));
+  whole = ap (λ i. close_all (r.edge ++ (open_.Minus n ∷ [])) (tree.Operand i)) last ∙ close_all-append r.edge (open_.Minus n) (tree.Operand (suc n + length ps - 1)) ∙ ap (tree.Negated n) r.whole;
+  closes = λ g h. AllClose-append r.edge (open_.Minus n) g (r.closes g (next_level 6 g h)) (closes_left reader.minus g refl h);
+}
   where
     opened : step root n (part.Minus p) os ≡ Some (open_.Minus n ∷ os)
     opened = rw opens refl
@@ -130,13 +130,13 @@ negation root n p ps t os opens r = record {
     last = omega arith
 
 pub pattern_negation : (root : Option ℕ) (n : ℕ) (p : _) (os : List Open) → turn_at os reader.minus ≡ Opens
-  → Reads root (LeftOnly 6) n (part.PatternMinus p ∷ part.Operand ∷ []) (tree.Negated n (tree.Operand (suc n))) os
+    → Reads root (LeftOnly 6) n (part.PatternMinus p ∷ part.Operand ∷ []) (tree.Negated n (tree.Operand (suc n))) os
 pattern_negation root n p os opens = record {
-    edge = open_.PatternMinus n ∷ [];
-    runs = ap (option_and_then (run root (suc n) (part.Operand ∷ []))) opened;
-    whole = ap (λ i. tree.Negated n (tree.Operand i)) last;
-    closes = λ g h. (ap reader.never_opens (closes_left reader.minus g refl h), tt);
-  }
+  edge = open_.PatternMinus n ∷ [];
+  runs = ap (option_and_then (run root (suc n) (part.Operand ∷ []))) opened;
+  whole = ap (λ i. tree.Negated n (tree.Operand i)) last;
+  closes = λ g h. (ap reader.never_opens (closes_left reader.minus g refl h), tt);
+}
   where
     opened : step root n (part.PatternMinus p) os ≡ Some (open_.PatternMinus n ∷ os)
     opened = rw opens refl
@@ -155,37 +155,37 @@ reads root os (right i n ps t d) free takes =
 reads root os (neither i n ls rs l r p dl dr) free takes =
     let f : Fixity = record { level = i; direction = Neither } in
     binary root (Any i) (Any (suc i)) (Any (suc i)) n p f ls rs l r os
-      (reads root os dl (free_before root n ls rs (part.Operator p f) os free) (λ g h. takes g (omega arith)))
-      (reads root (open_.Operator (n + length ls) f l ∷ os) dr (free_behind root n ls rs (part.Operator p f) (open_.Operator (n + length ls) f l) os free) (λ g h. opens_below f g h))
-      (keeps_between root n ls rs (part.Operator p f) os free) (takes f (omega arith)) (omega arith) (λ g h. (closes_above f g h, omega arith))
+    (reads root os dl (free_before root n ls rs (part.Operator p f) os free) (λ g h. takes g (omega arith)))
+    (reads root (open_.Operator (n + length ls) f l ∷ os) dr (free_behind root n ls rs (part.Operator p f) (open_.Operator (n + length ls) f l) os free) (λ g h. opens_below f g h))
+    (keeps_between root n ls rs (part.Operator p f) os free) (takes f (omega arith)) (omega arith) (λ g h. (closes_above f g h, omega arith))
 reads root os (left_left i n ls rs l r p dl dr) free takes =
     let f : Fixity = record { level = i; direction = Left } in
     binary root (LeftOnly i) (LeftOnly i) (Any (suc i)) n p f ls rs l r os
-      (reads root os dl (free_before root n ls rs (part.Operator p f) os free) takes)
-      (reads root (open_.Operator (n + length ls) f l ∷ os) dr (free_behind root n ls rs (part.Operator p f) (open_.Operator (n + length ls) f l) os free) (λ g h. opens_below f g h))
-      (keeps_between root n ls rs (part.Operator p f) os free) (takes f (inr (refl, refl))) (inr (refl, refl)) (λ g h. (closes_left f g refl h, next_level i g h))
+    (reads root os dl (free_before root n ls rs (part.Operator p f) os free) takes)
+    (reads root (open_.Operator (n + length ls) f l ∷ os) dr (free_behind root n ls rs (part.Operator p f) (open_.Operator (n + length ls) f l) os free) (λ g h. opens_below f g h))
+    (keeps_between root n ls rs (part.Operator p f) os free) (takes f (inr (refl, refl))) (inr (refl, refl)) (λ g h. (closes_left f g refl h, next_level i g h))
 reads root os (left_any i n ls rs l r p dl dr) free takes =
     let f : Fixity = record { level = i; direction = Left } in
     binary root (LeftOnly i) (Any (suc i)) (Any (suc i)) n p f ls rs l r os
-      (reads root os dl (free_before root n ls rs (part.Operator p f) os free) (λ g h. takes g (inl h)))
-      (reads root (open_.Operator (n + length ls) f l ∷ os) dr (free_behind root n ls rs (part.Operator p f) (open_.Operator (n + length ls) f l) os free) (λ g h. opens_below f g h))
-      (keeps_between root n ls rs (part.Operator p f) os free) (takes f (inr (refl, refl))) (omega arith) (λ g h. (closes_left f g refl h, next_level i g h))
+    (reads root os dl (free_before root n ls rs (part.Operator p f) os free) (λ g h. takes g (inl h)))
+    (reads root (open_.Operator (n + length ls) f l ∷ os) dr (free_behind root n ls rs (part.Operator p f) (open_.Operator (n + length ls) f l) os free) (λ g h. opens_below f g h))
+    (keeps_between root n ls rs (part.Operator p f) os free) (takes f (inr (refl, refl))) (omega arith) (λ g h. (closes_left f g refl h, next_level i g h))
 reads root os (minus n ps t p d) free takes =
     negation root n p ps t os (takes reader.minus (inr (refl, refl)))
-      (reads root (open_.Minus n ∷ os) d (free_minus root n (part.Minus p) ps (open_.Minus n) os free) (λ g h. opens_below reader.minus g h))
+    (reads root (open_.Minus n ∷ os) d (free_minus root n (part.Minus p) ps (open_.Minus n) os free) (λ g h. opens_below reader.minus g h))
 reads root os (pattern_minus n p) free takes = pattern_negation root n p os (takes reader.minus (inr (refl, refl)))
 reads root os (any_right i n ls rs l r p dl dr) free takes =
     let f : Fixity = record { level = i; direction = Right } in
     binary root (RightOnly i) (Any (suc i)) (Any (suc i)) n p f ls rs l r os
-      (reads root os dl (free_before root n ls rs (part.Operator p f) os free) (λ g h. takes g (inl h)))
-      (reads root (open_.Operator (n + length ls) f l ∷ os) dr (free_behind root n ls rs (part.Operator p f) (open_.Operator (n + length ls) f l) os free) (λ g h. opens_below f g h))
-      (keeps_between root n ls rs (part.Operator p f) os free) (takes f (inr (refl, refl))) (omega arith) (λ g h. (closes_above f g h, omega arith))
+    (reads root os dl (free_before root n ls rs (part.Operator p f) os free) (λ g h. takes g (inl h)))
+    (reads root (open_.Operator (n + length ls) f l ∷ os) dr (free_behind root n ls rs (part.Operator p f) (open_.Operator (n + length ls) f l) os free) (λ g h. opens_below f g h))
+    (keeps_between root n ls rs (part.Operator p f) os free) (takes f (inr (refl, refl))) (omega arith) (λ g h. (closes_above f g h, omega arith))
 reads root os (right_right i n ls rs l r p dl dr) free takes =
     let f : Fixity = record { level = i; direction = Right } in
     binary root (RightOnly i) (Any (suc i)) (RightOnly i) n p f ls rs l r os
-      (reads root os dl (free_before root n ls rs (part.Operator p f) os free) (λ g h. takes g (inl h)))
-      (reads root (open_.Operator (n + length ls) f l ∷ os) dr (free_behind root n ls rs (part.Operator p f) (open_.Operator (n + length ls) f l) os free) (λ g h. opens_right f g refl h))
-      (keeps_between root n ls rs (part.Operator p f) os free) (takes f (inr (refl, refl))) (omega arith) (λ g h. (closes_above f g h, h))
+    (reads root os dl (free_before root n ls rs (part.Operator p f) os free) (λ g h. takes g (inl h)))
+    (reads root (open_.Operator (n + length ls) f l ∷ os) dr (free_behind root n ls rs (part.Operator p f) (open_.Operator (n + length ls) f l) os free) (λ g h. opens_right f g refl h))
+    (keeps_between root n ls rs (part.Operator p f) os free) (takes f (inr (refl, refl))) (omega arith) (λ g h. (closes_above f g h, h))
 
 free_at : (r n m : ℕ) (os : List Open) → (r < n) → is_empty os ≡ false → Free (Some r) n m os
 free_at r n m os h e k same = let is : r ≡ k = cc in inr (omega arith, e)
@@ -195,16 +195,16 @@ free_until r n m h k same = let is : r ≡ k = cc in inl (omega arith)
 
 -- an operator at the root that is demanded
 rooted : (r : ℕ) (x y z : Nonterminal) (n : ℕ) (p : _) (f : Fixity) (ls rs : List Part) (l t : Graded) → n + length ls ≡ r
-  → (Free (Some r) n (n + length ls) [] → Reads (Some r) y n ls l [])
-  → (Free (Some r) (suc (n + length ls)) (suc (n + length ls) + length rs) (open_.Operator (n + length ls) f l ∷ [])
+    → (Free (Some r) n (n + length ls) [] → Reads (Some r) y n ls l [])
+    → (Free (Some r) (suc (n + length ls)) (suc (n + length ls) + length rs) (open_.Operator (n + length ls) f l ∷ [])
     → Reads (Some r) z (suc (n + length ls)) rs t (open_.Operator (n + length ls) f l ∷ []))
-  → Looser y f → ((g : Fixity) → Looser x g → (turn_between f g ≡ Closes) × Looser z g)
-  → Reads (Some r) x n (ls ++ (part.Operator p f ∷ rs)) (tree.Binary (n + length ls) l t) []
+    → Looser y f → ((g : Fixity) → Looser x g → (turn_between f g ≡ Closes) × Looser z g)
+    → Reads (Some r) x n (ls ++ (part.Operator p f ∷ rs)) (tree.Binary (n + length ls) l t) []
 rooted r x y z n p f ls rs l t here before behind looser down =
     binary (Some r) x y z n p f ls rs l t []
-      (before (free_until r n (n + length ls) (omega arith)))
-      (behind (free_at r (suc (n + length ls)) (suc (n + length ls) + length rs) (open_.Operator (n + length ls) f l ∷ []) (omega arith) refl))
-      keeps refl looser down
+    (before (free_until r n (n + length ls) (omega arith)))
+    (behind (free_at r (suc (n + length ls)) (suc (n + length ls) + length rs) (open_.Operator (n + length ls) f l ∷ []) (omega arith) refl))
+    keeps refl looser down
   where
     le : r ≤ n + length ls
     le = omega arith
@@ -223,30 +223,30 @@ reads_rooted r l u (right i n ps t d) e =
 reads_rooted r l u (neither i n ls rs a b p dl dr) e =
     let f : Fixity = record { level = i; direction = Neither } in
     rooted r (Any i) (Any (suc i)) (Any (suc i)) n p f ls rs a b (cc)
-      (λ free. reads (Some r) [] dl free (λ g h. refl)) (λ free. reads (Some r) (open_.Operator (n + length ls) f a ∷ []) dr free (λ g h. opens_below f g h))
-      (omega arith) (λ g h. (closes_above f g h, omega arith))
+    (λ free. reads (Some r) [] dl free (λ g h. refl)) (λ free. reads (Some r) (open_.Operator (n + length ls) f a ∷ []) dr free (λ g h. opens_below f g h))
+    (omega arith) (λ g h. (closes_above f g h, omega arith))
 reads_rooted r l u (left_left i n ls rs a b p dl dr) e =
     let f : Fixity = record { level = i; direction = Left } in
     rooted r (LeftOnly i) (LeftOnly i) (Any (suc i)) n p f ls rs a b (cc)
-      (λ free. reads (Some r) [] dl free (λ g h. refl)) (λ free. reads (Some r) (open_.Operator (n + length ls) f a ∷ []) dr free (λ g h. opens_below f g h))
-      (inr (refl, refl)) (λ g h. (closes_left f g refl h, next_level i g h))
+    (λ free. reads (Some r) [] dl free (λ g h. refl)) (λ free. reads (Some r) (open_.Operator (n + length ls) f a ∷ []) dr free (λ g h. opens_below f g h))
+    (inr (refl, refl)) (λ g h. (closes_left f g refl h, next_level i g h))
 reads_rooted r l u (left_any i n ls rs a b p dl dr) e =
     let f : Fixity = record { level = i; direction = Left } in
     rooted r (LeftOnly i) (Any (suc i)) (Any (suc i)) n p f ls rs a b (cc)
-      (λ free. reads (Some r) [] dl free (λ g h. refl)) (λ free. reads (Some r) (open_.Operator (n + length ls) f a ∷ []) dr free (λ g h. opens_below f g h))
-      (omega arith) (λ g h. (closes_left f g refl h, next_level i g h))
+    (λ free. reads (Some r) [] dl free (λ g h. refl)) (λ free. reads (Some r) (open_.Operator (n + length ls) f a ∷ []) dr free (λ g h. opens_below f g h))
+    (omega arith) (λ g h. (closes_left f g refl h, next_level i g h))
 reads_rooted r l u (minus n ps t p d) e = absurd (cc)
 reads_rooted r l u (pattern_minus n p) e = absurd (cc)
 reads_rooted r l u (any_right i n ls rs a b p dl dr) e =
     let f : Fixity = record { level = i; direction = Right } in
     rooted r (RightOnly i) (Any (suc i)) (Any (suc i)) n p f ls rs a b (cc)
-      (λ free. reads (Some r) [] dl free (λ g h. refl)) (λ free. reads (Some r) (open_.Operator (n + length ls) f a ∷ []) dr free (λ g h. opens_below f g h))
-      (omega arith) (λ g h. (closes_above f g h, omega arith))
+    (λ free. reads (Some r) [] dl free (λ g h. refl)) (λ free. reads (Some r) (open_.Operator (n + length ls) f a ∷ []) dr free (λ g h. opens_below f g h))
+    (omega arith) (λ g h. (closes_above f g h, omega arith))
 reads_rooted r l u (right_right i n ls rs a b p dl dr) e =
     let f : Fixity = record { level = i; direction = Right } in
     rooted r (RightOnly i) (Any (suc i)) (RightOnly i) n p f ls rs a b (cc)
-      (λ free. reads (Some r) [] dl free (λ g h. refl)) (λ free. reads (Some r) (open_.Operator (n + length ls) f a ∷ []) dr free (λ g h. opens_right f g refl h))
-      (omega arith) (λ g h. (closes_above f g h, h))
+    (λ free. reads (Some r) [] dl free (λ g h. refl)) (λ free. reads (Some r) (open_.Operator (n + length ls) f a ∷ []) dr free (λ g h. opens_right f g refl h))
+    (omega arith) (λ g h. (closes_above f g h, h))
 
 -- the reader takes all the parts, and what then stands on the stack closes to the tree
 abbrev pub Finishes : Option ℕ → List Part → Graded → Type 0

@@ -85,7 +85,7 @@ turns_up_to (part.PatternMinus p ∷ ps) await.Term (suc n) q e o turns = turns_
 turns_up_to (part.Operator p f ∷ ps) await.Operator (suc n) q e o turns = by (nat_le f.level 9) turns (λ h. turns_up_to ps await.Term n q e o h)
   where
     by : (b : Bool) → (b && take_turns await.Term ps) ≡ true → (take_turns await.Term ps ≡ true → take_turns await.Term (take (suc n) ps ++ (part.Operand ∷ [])) ≡ true)
-      → (b && take_turns await.Term (take (suc n) ps ++ (part.Operand ∷ []))) ≡ true
+        → (b && take_turns await.Term (take (suc n) ps ++ (part.Operand ∷ []))) ≡ true
     by true h next = next h
     by false h next = absurd (cc)
 turns_up_to (part.Operand ∷ ps) await.Operator (suc n) q e o turns = absurd (cc)
@@ -136,12 +136,13 @@ module _ (seq : Infix) (is : IsSequence seq) (k : ℕ) (q : Part) (os : List Ope
       let c : Cut seq.parts n p = cut seq.parts n p e in
       let long : length (take (suc n) seq.parts) ≡ suc n = ap length c.more ∙ length-append (take n seq.parts) (p ∷ []) ∙ (let l : length (take n seq.parts) ≡ n = c.long in omega arith) in
       let f : (os' : List Open) × (run seq.root 0 (take (suc n) seq.parts) [] ≡ Some os') =
-        front_runs seq.root (take (suc n) seq.parts) (drop (suc n) (take k seq.parts)) os (subst (λ ps. run seq.root 0 ps [] ≡ Some os) (take_within seq.parts (suc n) k (omega arith)) runs) in
+      front_runs seq.root (take (suc n) seq.parts) (drop (suc n) (take k seq.parts)) os (subst (λ ps. run seq.root 0 ps [] ≡ Some os) (take_within seq.parts (suc n) k (omega arith)) runs) in
       let cut_off : run (root_up_to n seq.root) 0 (take (suc n) seq.parts) [] ≡ Some f.0 = run_up_to seq.root n (take (suc n) seq.parts) 0 [] (omega arith) ∙ f.1 in
       let whole : run (root_up_to n seq.root) 0 (take (suc n) seq.parts ++ (part.Operand ∷ [])) [] ≡ Some f.0 =
-        run_last (root_up_to n seq.root) (take (suc n) seq.parts) (suc n) part.Operand f.0 long cut_off in
-      (close_all f.0 (tree.Operand (length (take (suc n) seq.parts ++ (part.Operand ∷ [])) - 1)),
-        sound (up_to seq n) f.0 (turns_up_to seq.parts await.Term n p e o is.turns) (root_of_up_to seq.root seq.parts n is.root) whole)
+      run_last (root_up_to n seq.root) (take (suc n) seq.parts) (suc n) part.Operand f.0 long cut_off in (
+        close_all f.0 (tree.Operand (length (take (suc n) seq.parts ++ (part.Operand ∷ [])) - 1)),
+        sound (up_to seq n) f.0 (turns_up_to seq.parts await.Term n p e o is.turns) (root_of_up_to seq.root seq.parts n is.root) whole,
+      )
 
   pub stuck : step seq.root k q os ≡ None → run seq.root 0 (take (suc k) seq.parts) [] ≡ None
   stuck e =
@@ -156,20 +157,20 @@ module _ (seq : Infix) (is : IsSequence seq) (k : ℕ) (q : Part) (os : List Ope
 
   pub refused : (error : FixityError) → step seq.root k q os ≡ None → Shows (take k seq.parts) q error → IsConflict seq error
   refused error e shows = record {
-      number = k;
-      operator = q;
-      stands = here;
-      shows = shows;
-      none = λ t r. stuck_front (root_up_to k seq.root) (take (suc k) seq.parts) (part.Operand ∷ []) t
-          (run_up_to seq.root k (take (suc k) seq.parts) 0 [] long_up_to ∙ stuck e)
-          (complete (root_up_to k seq.root) (take (suc k) seq.parts ++ (part.Operand ∷ [])) t r.graded r.rooted);
-      first = λ n p lt at o. tree_up_to n p lt at o;
-      refused = λ t r. stuck_front seq.root (take (suc k) seq.parts) (drop (suc k) seq.parts) t (stuck e)
-          (subst (λ ps. Finishes seq.root ps t) (sym (take-append-drop (suc k) seq.parts)) (complete seq.root seq.parts t r.graded r.rooted));
-    }
+    number = k;
+    operator = q;
+    stands = here;
+    shows = shows;
+    none = λ t r. stuck_front (root_up_to k seq.root) (take (suc k) seq.parts) (part.Operand ∷ []) t
+        (run_up_to seq.root k (take (suc k) seq.parts) 0 [] long_up_to ∙ stuck e)
+        (complete (root_up_to k seq.root) (take (suc k) seq.parts ++ (part.Operand ∷ [])) t r.graded r.rooted);
+    first = λ n p lt at o. tree_up_to n p lt at o;
+    refused = λ t r. stuck_front seq.root (take (suc k) seq.parts) (drop (suc k) seq.parts) t (stuck e)
+        (subst (λ ps. Finishes seq.root ps t) (sym (take-append-drop (suc k) seq.parts)) (complete seq.root seq.parts t r.graded r.rooted));
+  }
 
 pub run_more : (root : Option ℕ) (ps : List Part) (k : ℕ) (q : Part) (os rest : List Open) (b : Bool) → slice_get ps k ≡ Some q → run root 0 (take k ps) [] ≡ Some os
-  → step root k q os ≡ cond b (Some rest) None → b ≡ true → run root 0 (take (k + 1) ps) [] ≡ Some rest
+    → step root k q os ≡ cond b (Some rest) None → b ≡ true → run root 0 (take (k + 1) ps) [] ≡ Some rest
 run_more root ps k q os rest b here runs taken is_true =
     let c : Cut ps k q = cut ps k q here in
     let e : k + 1 ≡ suc k = omega arith in

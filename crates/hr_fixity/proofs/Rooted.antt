@@ -43,7 +43,7 @@ Kept r (Some (os, l)) = is_empty os ≡ false → Outermost r os
 left_keeps : (r : ℕ) (os : List Open) (t : Graded) (f : Fixity) → (is_empty os ≡ false → Outermost r os) → Kept r (left_of os t f)
 left_keeps r [] t f h = h
 left_keeps r (o ∷ os) t f h = by (turn_of o f)
-  (left_keeps r os (close o t) f (below os (h refl)))
+    (left_keeps r os (close o t) f (below os (h refl)))
   where
     below : (ps : List Open) → Outermost r (o ∷ ps) → is_empty ps ≡ false → Outermost r ps
     below [] out e = absurd (cc)
@@ -134,8 +134,8 @@ rooted (Some r) ps os t h runs =
     close_all_root r os t (rooted_by r h.0 h.1 (take r ps) (drop (suc r) ps) os c.long (subst (λ qs. run (Some r) 0 qs [] ≡ Some os) c.whole runs))
 
 pub sound : (seq : Infix) (os : List Open) → take_turns await.Term seq.parts ≡ true → IsRootOf seq.parts seq.root → run seq.root 0 seq.parts [] ≡ Some os
-  → IsResolved seq (close_all os (tree.Operand (length seq.parts - 1)))
+    → IsResolved seq (close_all os (tree.Operand (length seq.parts - 1)))
 sound seq os turns root runs = record {
-    graded = graded seq.root seq.parts os turns runs;
-    rooted = rooted seq.root seq.parts os (tree.Operand (length seq.parts - 1)) root runs;
-  }
+  graded = graded seq.root seq.parts os turns runs;
+  rooted = rooted seq.root seq.parts os (tree.Operand (length seq.parts - 1)) root runs;
+}

@@ -17,12 +17,12 @@ AllClose [] f = Unit {0}
 AllClose (o ∷ os) f = (turn_of o f ≡ Closes) × AllClose os f
 
 run_on : (f g : List Open → Option (List Open)) (h : List Open → Option (List Open)) → ((os : List Open) → f os ≡ option_and_then h (g os))
-  → (s : Option (List Open)) → option_and_then f s ≡ option_and_then h (option_and_then g s)
+    → (s : Option (List Open)) → option_and_then f s ≡ option_and_then h (option_and_then g s)
 run_on f g h e None = refl
 run_on f g h e (Some os) = e os
 
 pub run-append : (root : Option ℕ) (n m : ℕ) (ps qs : List Part) (os : List Open) → m ≡ n + length ps
-  → run root n (ps ++ qs) os ≡ option_and_then (run root m qs) (run root n ps os)
+    → run root n (ps ++ qs) os ≡ option_and_then (run root m qs) (run root n ps os)
 run-append root n m [] qs os e = let here : n ≡ m = omega arith in ap (λ k. run root k qs os) here
 run-append root n m (p ∷ ps) qs os e =
     let e' : m ≡ suc n + length ps = omega arith in
@@ -46,7 +46,7 @@ AllClose-append (p ∷ edge) o f all h = (all.0, AllClose-append edge o f all.1 
 
 -- an operator behind its whole left operand
 pub step-operator : (root : Option ℕ) (n : ℕ) (p : _) (f : Fixity) (edge os : List Open) (l : Graded) → AllClose edge f → close_all edge (tree.Operand (n - 1)) ≡ l
-  → turn_at os f ≡ Opens → keeps_root root n (is_empty os) ≡ true → step root n (part.Operator p f) (edge ++ os) ≡ Some (Operator n f l ∷ os)
+    → turn_at os f ≡ Opens → keeps_root root n (is_empty os) ≡ true → step root n (part.Operator p f) (edge ++ os) ≡ Some (Operator n f l ∷ os)
 step-operator root n p f edge os l all whole opens keeps =
     ap (open_operator root n f) (left_of-closes edge os (tree.Operand (n - 1)) f all ∙ ap (λ t. left_of os t f) whole ∙ left_of-opens os l f opens)
     ∙ rw keeps refl

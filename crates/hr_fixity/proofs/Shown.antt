@@ -112,7 +112,7 @@ right_there root k (part.Minus p) os e = refl
 right_there root k (part.PatternMinus p) os e = refl
 
 pub left_there : (root : Option ℕ) (ps : List Part) (k : ℕ) (q : Part) (os : List Open) → IsRootOf ps root → run root 0 (take k ps) [] ≡ Some os → step root k q os ≡ None
-  → IsSome (place_at (beside (take k ps) q))
+    → IsSome (place_at (beside (take k ps) q))
 left_there root ps k q os is_root runs stuck = some_beside (take k ps) q (by (find is_operator (reverse (take k ps))) refl)
   where
     none : find is_operator (reverse (take k ps)) ≡ None → (j : ℕ) (x : Part) → slice_get (take k ps) j ≡ Some x → is_operator x ≡ false

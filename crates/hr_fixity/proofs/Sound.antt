@@ -39,7 +39,7 @@ Node Right i n ps t = Derives (RightOnly i) n ps t
 Node Neither i n ps t = Derives (Any i) n ps t
 
 pub joins : (d : Direction) (i n : ℕ) (p : Place) (ls rs : List Part) (l r : Graded) → LeftOperand d i n ls l → RightOperand d i (suc (n + length ls)) rs r
-  → Node d i n (ls ++ (part.Operator p (record { level = i; direction = d }) ∷ rs)) (tree.Binary (n + length ls) l r)
+    → Node d i n (ls ++ (part.Operator p (record { level = i; direction = d }) ∷ rs)) (tree.Binary (n + length ls) l r)
 joins Left i n p ls rs l r (inl a) b = g.left_left i n ls rs l r p a b
 joins Left i n p ls rs l r (inr a) b = g.left_any i n ls rs l r p a b
 joins Right i n p ls rs l r a (inl b) = g.right_right i n ls rs l r p a b
@@ -146,6 +146,6 @@ Fit (open_.PatternMinus k ∷ os) n ps t = (ps ≡ part.Operand ∷ []) × (t �
 pub data Spine : List Open → List Part → Type 0 where
   bottom : Spine [] []
   operator : (os : List Open) (ps ls : List Part) (p : Place) (f : Fixity) (l : Graded) → Spine os ps → turn_at os f ≡ Opens → f.level ≤ 9 → LeftOperand f.direction f.level (length ps) ls l
-    → Spine (open_.Operator (length ps + length ls) f l ∷ os) (ps ++ (ls ++ (part.Operator p f ∷ [])))
+      → Spine (open_.Operator (length ps + length ls) f l ∷ os) (ps ++ (ls ++ (part.Operator p f ∷ [])))
   negation : (os : List Open) (ps : List Part) (p : Place) → Spine os ps → turn_at os reader.minus ≡ Opens → Spine (open_.Minus (length ps) ∷ os) (ps ++ (part.Minus p ∷ []))
   literal : (os : List Open) (ps : List Part) (p : Place) → Spine os ps → turn_at os reader.minus ≡ Opens → Spine (open_.PatternMinus (length ps) ∷ os) (ps ++ (part.PatternMinus p ∷ []))

@@ -25,19 +25,19 @@ pub data Derives : Nonterminal → ℕ → List Part → Graded → Type 0 where
   right : (i n : ℕ) (ps : List Part) (t : Graded) → Derives (RightOnly i) n ps t → Derives (Any i) n ps t
   -- exp^i → exp^(i+1) qop^(n,i) exp^(i+1)
   neither : (i n : ℕ) (ls rs : List Part) (l r : Graded) (p : Place) → Derives (Any (suc i)) n ls l → Derives (Any (suc i)) (suc (n + length ls)) rs r
-    → Derives (Any i) n (ls ++ part.Operator p (record { level = i; direction = Neither }) ∷ rs) (tree.Binary (n + length ls) l r)
+      → Derives (Any i) n (ls ++ part.Operator p (record { level = i; direction = Neither }) ∷ rs) (tree.Binary (n + length ls) l r)
   -- lexp^i → (lexp^i | exp^(i+1)) qop^(l,i) exp^(i+1)
   left_left : (i n : ℕ) (ls rs : List Part) (l r : Graded) (p : Place) → Derives (LeftOnly i) n ls l → Derives (Any (suc i)) (suc (n + length ls)) rs r
-    → Derives (LeftOnly i) n (ls ++ part.Operator p (record { level = i; direction = Left }) ∷ rs) (tree.Binary (n + length ls) l r)
+      → Derives (LeftOnly i) n (ls ++ part.Operator p (record { level = i; direction = Left }) ∷ rs) (tree.Binary (n + length ls) l r)
   left_any : (i n : ℕ) (ls rs : List Part) (l r : Graded) (p : Place) → Derives (Any (suc i)) n ls l → Derives (Any (suc i)) (suc (n + length ls)) rs r
-    → Derives (LeftOnly i) n (ls ++ part.Operator p (record { level = i; direction = Left }) ∷ rs) (tree.Binary (n + length ls) l r)
+      → Derives (LeftOnly i) n (ls ++ part.Operator p (record { level = i; direction = Left }) ∷ rs) (tree.Binary (n + length ls) l r)
   -- lexp^6 → - exp^7
   minus : (n : ℕ) (ps : List Part) (t : Graded) (p : Place) → Derives (Any 7) (suc n) ps t
-    → Derives (LeftOnly 6) n (part.Minus p ∷ ps) (tree.Negated n t)
+      → Derives (LeftOnly 6) n (part.Minus p ∷ ps) (tree.Negated n t)
   -- lpat^6 → - integer
   pattern_minus : (n : ℕ) (p : Place) → Derives (LeftOnly 6) n (part.PatternMinus p ∷ part.Operand ∷ []) (tree.Negated n (tree.Operand (suc n)))
   -- rexp^i → exp^(i+1) qop^(r,i) (rexp^i | exp^(i+1))
   any_right : (i n : ℕ) (ls rs : List Part) (l r : Graded) (p : Place) → Derives (Any (suc i)) n ls l → Derives (Any (suc i)) (suc (n + length ls)) rs r
-    → Derives (RightOnly i) n (ls ++ part.Operator p (record { level = i; direction = Right }) ∷ rs) (tree.Binary (n + length ls) l r)
+      → Derives (RightOnly i) n (ls ++ part.Operator p (record { level = i; direction = Right }) ∷ rs) (tree.Binary (n + length ls) l r)
   right_right : (i n : ℕ) (ls rs : List Part) (l r : Graded) (p : Place) → Derives (Any (suc i)) n ls l → Derives (RightOnly i) (suc (n + length ls)) rs r
-    → Derives (RightOnly i) n (ls ++ part.Operator p (record { level = i; direction = Right }) ∷ rs) (tree.Binary (n + length ls) l r)
+      → Derives (RightOnly i) n (ls ++ part.Operator p (record { level = i; direction = Right }) ∷ rs) (tree.Binary (n + length ls) l r)

@@ -6,5 +6,4 @@ ghost use Rattle.hr_fixity.specs.declared.tree.Graded.{Graded};
 /// A law of the definitions alone: a sequence has one tree at most.
 pub fn one_tree()
     ensures { (seq : Infix) (t u : Graded) → IsResolved seq t → IsResolved seq u → t ≡ u }
-{
-}
+{}

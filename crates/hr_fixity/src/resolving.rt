@@ -30,7 +30,13 @@ fn keeps_root(root: Option<u32>, number: u32, is_outermost: bool) -> bool
 }
 
 /// Opens an infix operator behind an operand. False says that it has no place there.
-fn open_operator(alloc: Global, stack: &mut Stack, root: Option<u32>, number: u32, fixity: Fixity) -> Result<bool, AllocError>
+fn open_operator(
+    alloc: Global,
+    stack: &mut Stack,
+    root: Option<u32>,
+    number: u32,
+    fixity: Fixity,
+) -> Result<bool, AllocError>
     requires { 0 < number }
     ensures { IfOk result (λ opened. reader.open_operator root number fixity (reader.left_of stack.old (tree.Operand (number - 1)) fixity) ≡ if opened then Some stack.new else None) }
 {
@@ -40,14 +46,24 @@ fn open_operator(alloc: Global, stack: &mut Stack, root: Option<u32>, number: u3
             if !keeps_root(root, number, stack.is_empty()) {
                 return Ok(false);
             }
-            stack.push(Open::Operator { number, fixity, left })?;
+            stack.push(Open::Operator {
+                number,
+                fixity,
+                left,
+            })?;
             Ok(true)
         }
     }
 }
 
 /// Takes the part of this number. False says that it is an operator with no place there.
-fn take_part(alloc: Global, stack: &mut Stack, root: Option<u32>, number: u32, part: &Part) -> Result<bool, AllocError>
+fn take_part(
+    alloc: Global,
+    stack: &mut Stack,
+    root: Option<u32>,
+    number: u32,
+    part: &Part,
+) -> Result<bool, AllocError>
     requires { IsBehindOperand number part.now }
     ensures { IfOk result (λ taken. reader.step root number part.now stack.old ≡ if taken then Some stack.new else None) }
 {

@@ -23,18 +23,11 @@ pub struct Fixity {
 #[derive(Clone, Debug, Drop)]
 pub enum Part {
     Operand,
-    Operator {
-        place: Place,
-        fixity: Fixity,
-    },
+    Operator { place: Place, fixity: Fixity },
     /// A prefix minus of an expression, which negates as much as binds tighter than it does.
-    Minus {
-        place: Place,
-    },
+    Minus { place: Place },
     /// A prefix minus of a pattern, which takes the literal behind it and no more.
-    PatternMinus {
-        place: Place,
-    },
+    PatternMinus { place: Place },
 }
 
 /// A flat sequence. `root` is the number of the operator that has to stand at the root, as the

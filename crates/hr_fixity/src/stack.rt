@@ -171,7 +171,12 @@ impl Stack {
 
     /// Closes each operator that binds tighter than the next one. What they make is the next one's
     /// left operand; there is none where the next one clashes.
-    pub fn left_of(&mut self, alloc: Global, tree: Graded, next: Fixity) -> Result<Option<Graded>, AllocError>
+    pub fn left_of(
+        &mut self,
+        alloc: Global,
+        tree: Graded,
+        next: Fixity,
+    ) -> Result<Option<Graded>, AllocError>
         ensures { IfOk result (λ left. MatchOption left (reader.left_of self.old tree next ≡ None) (λ left. reader.left_of self.old tree next ≡ Some (self.new, left))) }
     {
         let mut tree = tree;

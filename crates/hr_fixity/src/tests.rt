@@ -12,13 +12,11 @@ use std::alloc::{AllocError, Global};
 fn parts_of(alloc: Global, text: &[u8]) -> Result<Vec<Part>, AllocError> {
     let mut parts = Vec::new(alloc);
     let mut level = 0;
+    let mut col = 1u32;
     for letter in text {
         let place = Place {
             module: Text::from_slice(alloc, b"M")?,
-            pos: Pos {
-                line: 1,
-                col: (parts.len() as u32).saturating_add(1),
-            },
+            pos: Pos { line: 1, col },
         };
         match *letter {
             b'x' => parts.push(Part::Operand)?,
@@ -27,8 +25,12 @@ fn parts_of(alloc: Global, text: &[u8]) -> Result<Vec<Part>, AllocError> {
             b'l' => parts.push(operator(place, level, Direction::Left))?,
             b'r' => parts.push(operator(place, level, Direction::Right))?,
             b'n' => parts.push(operator(place, level, Direction::Neither))?,
-            digit => level = digit.saturating_sub(b'0'),
+            digit => {
+                level = digit.saturating_sub(b'0');
+                continue;
+            }
         }
+        col = col.saturating_add(1);
     }
     Ok(parts)
 }
@@ -48,7 +50,11 @@ fn written(alloc: Global, tree: &Graded) -> Result<String, AllocError> {
             let operand = written(alloc, operand.get())?;
             format!(in alloc; "[{minus} {operand}]")
         }
-        Graded::Binary { operator, left, right } => {
+        Graded::Binary {
+            operator,
+            left,
+            right,
+        } => {
             let left = written(alloc, left.get())?;
             let right = written(alloc, right.get())?;
             format!(in alloc; "({operator} {left} {right})")

@@ -7,7 +7,10 @@ pub enum Graded {
     /// The operand of this number.
     Operand(u32),
     /// A prefix minus and what it negates.
-    Negated { minus: u32, operand: Boxed<Graded> },
+    Negated {
+        minus: u32,
+        operand: Boxed<Graded>,
+    },
     /// An infix operator between its operands.
     Binary {
         operator: u32,

@@ -12,13 +12,23 @@ enum Symbol {
 }
 
 /// The productions of a nonterminal that have this infix operator: the nonterminals of its operands.
-fn operands(alloc: Global, symbol: Symbol, fixity: Fixity) -> Result<Vec<(Symbol, Symbol)>, AllocError> {
+fn operands(
+    alloc: Global,
+    symbol: Symbol,
+    fixity: Fixity,
+) -> Result<Vec<(Symbol, Symbol)>, AllocError> {
     let level = u32::from(fixity.level);
     let above = Symbol::Any(level.saturating_add(1));
     match (symbol, fixity.direction) {
         (Symbol::Any(i), Direction::Neither) if i == level => Ok(vec![in alloc; (above, above)]?),
-        (Symbol::LeftOnly(i), Direction::Left) if i == level => Ok(vec![in alloc; (symbol, above), (above, above)]?),
-        (Symbol::RightOnly(i), Direction::Right) if i == level => Ok(vec![in alloc; (above, symbol), (above, above)]?),
+        (Symbol::LeftOnly(i), Direction::Left) if i == level => Ok(vec![in alloc;
+            (symbol, above),
+            (above, above),
+        ]?),
+        (Symbol::RightOnly(i), Direction::Right) if i == level => Ok(vec![in alloc;
+            (above, symbol),
+            (above, above),
+        ]?),
         _ => Ok(Vec::new(alloc)),
     }
 }
@@ -49,11 +59,33 @@ fn node(alloc: Global, number: u32, left: &[u32], right: &[u32]) -> Result<Numbe
     Ok(numbers)
 }
 
+/// Each left operand with each right one.
+fn push_nodes(
+    found: &mut Vec<Numbers>,
+    number: u32,
+    lefts: &[Numbers],
+    rights: &[Numbers],
+    alloc: Global,
+) -> Result<(), AllocError> {
+    for left in lefts {
+        for right in rights {
+            found.push(node(alloc, number, left, right)?)?;
+        }
+    }
+    Ok(())
+}
+
 /// The trees that the productions derive for the parts, numbered from `first`. Each step of a
 /// derivation takes one of the turns. The steps from exp^i to exp^(i+1) are made at once up to the
 /// lowest level of an operator: below it exp^i has no other production that fits, and above it none
 /// that has the operator.
-fn trees(alloc: Global, symbol: Symbol, first: u32, parts: &[Part], turns: u32) -> Result<Vec<Numbers>, AllocError> {
+fn trees(
+    alloc: Global,
+    symbol: Symbol,
+    first: u32,
+    parts: &[Part],
+    turns: u32,
+) -> Result<Vec<Numbers>, AllocError> {
     let mut found = Vec::new(alloc);
     let Some(turns) = turns.checked_sub(1) else {
         return Ok(found);
@@ -90,11 +122,7 @@ fn trees(alloc: Global, symbol: Symbol, first: u32, parts: &[Part], turns: u32) 
             for (left, right) in operands(alloc, symbol, *fixity)? {
                 let lefts = trees(alloc, left, first, before, turns)?;
                 let rights = trees(alloc, right, number.saturating_add(1), behind, turns)?;
-                for left in &lefts {
-                    for right in &rights {
-                        found.push(node(alloc, number, left, right)?)?;
-                    }
-                }
+                push_nodes(&mut found, number, &lefts, &rights, alloc)?;
             }
         }
         number = number.saturating_add(1);
@@ -137,7 +165,12 @@ impl Enumeration {
     }
 
     /// The answer, with a root that is demanded.
-    fn answer(&self, alloc: Global, parts: &[Part], root: Option<u32>) -> Result<Answer, AllocError> {
+    fn answer(
+        &self,
+        alloc: Global,
+        parts: &[Part],
+        root: Option<u32>,
+    ) -> Result<Answer, AllocError> {
         let mut found = None;
         for tree in &self.whole {
             if has_root(tree, root) {
@@ -155,10 +188,8 @@ impl Enumeration {
                 Some(root) if root as usize <= *number => Some(root),
                 _ => None,
             };
-            if !trees.iter().any(|tree| has_root(tree, kept))
-                && let (before, [part, ..]) = parts.split_at(*number)
-            {
-                return Ok(Answer::Shown(left_column(before, part), before.len() as u32 + 1));
+            if !trees.iter().any(|tree| has_root(tree, kept)) {
+                return Ok(shown(parts, *number));
             }
         }
         Ok(Answer::Nothing)
@@ -181,6 +212,20 @@ fn has_root(tree: &[u32], root: Option<u32>) -> bool {
         (Some(root), [first, ..]) => *first == root,
         (Some(_), []) => false,
     }
+}
+
+/// The columns that are shown where the operator of this number has no place.
+fn shown(parts: &[Part], number: usize) -> Answer {
+    let mut left = 0u32;
+    let mut column = 0u32;
+    for (at, part) in parts.iter().enumerate() {
+        column = column.saturating_add(1);
+        if at == number {
+            left = left_column(parts.split_at(at).0, part);
+            break;
+        }
+    }
+    Answer::Shown(left, column)
 }
 
 /// The column of the operator that is shown beside the one behind the parts.
@@ -211,7 +256,11 @@ fn numbers_of(alloc: Global, tree: &Graded) -> Result<Numbers, AllocError> {
             let operand = numbers_of(alloc, operand.get())?;
             node(alloc, *minus, &operand, &[])
         }
-        Graded::Binary { operator, left, right } => {
+        Graded::Binary {
+            operator,
+            left,
+            right,
+        } => {
             let left = numbers_of(alloc, left.get())?;
             let right = numbers_of(alloc, right.get())?;
             node(alloc, *operator, &left, &right)
@@ -225,7 +274,10 @@ fn resolved(alloc: Global, seq: &Infix) -> Result<Answer, AllocError> {
     }
     match resolve(alloc, seq) {
         Ok(tree) => Ok(Answer::Tree(numbers_of(alloc, &tree)?)),
-        Err(FixityError::FixityConflict { left, right }) => Ok(Answer::Shown(left.pos.col, right.pos.col)),
+        Err(FixityError::FixityConflict { left, right }) => Ok(Answer::Shown(
+            left.pos.col,
+            right.pos.col,
+        )),
         Err(FixityError::Memory(error)) => Err(error),
     }
 }
@@ -255,7 +307,11 @@ fn resolve_agrees_with_the_enumeration(rt: HostRuntime) -> Result<(), Fail> {
         for text in &texts {
             let mut seq = sequence_of(alloc, text.as_bytes(), None)?;
             let all = Enumeration::new(alloc, seq.parts.as_slice())?;
-            assert_eq!(rt; resolved(alloc, &seq)?, all.answer(alloc, seq.parts.as_slice(), None)?, "{text}");
+            assert_eq!(rt;
+                resolved(alloc, &seq)?,
+                all.answer(alloc, seq.parts.as_slice(), None)?,
+                "{text}"
+            );
             for root in 0..seq.parts.len() as u32 {
                 seq.root = Some(root);
                 if seq.is_sequence() {

@@ -26,7 +26,11 @@ fn sequences_have_the_trees_of_the_report(rt: HostRuntime) -> Result<(), Fail> {
         ("~x5rx", "(2 [0 1] 3)"),
         ("~x6lx", "(2 [0 1] 3)"),
     ] {
-        assert_eq!(rt; answer_of(rt.alloc(), &sequence_of(rt.alloc(), text.as_bytes(), None)?)?.as_str(), want, "{text}");
+        assert_eq!(rt;
+            answer_of(rt.alloc(), &sequence_of(rt.alloc(), text.as_bytes(), None)?)?.as_str(),
+            want,
+            "{text}"
+        );
     }
     Ok(())
 }
@@ -55,7 +59,11 @@ fn sequences_without_a_tree_show_two_operators(rt: HostRuntime) -> Result<(), Fa
         // the first of two conflicts
         ("x4nx4nx6rx6lx", "2 4"),
     ] {
-        assert_eq!(rt; answer_of(rt.alloc(), &sequence_of(rt.alloc(), text.as_bytes(), None)?)?.as_str(), want, "{text}");
+        assert_eq!(rt;
+            answer_of(rt.alloc(), &sequence_of(rt.alloc(), text.as_bytes(), None)?)?.as_str(),
+            want,
+            "{text}"
+        );
     }
     Ok(())
 }
@@ -78,7 +86,15 @@ fn a_demanded_root_is_met_or_refused(rt: HostRuntime) -> Result<(), Fail> {
         ("x5rx6lx7lx5rx0rx", 1, "8 10"),
         ("-x7lx", 2, "1 3"),
     ] {
-        assert_eq!(rt; answer_of(rt.alloc(), &sequence_of(rt.alloc(), text.as_bytes(), Some(root))?)?.as_str(), want, "{text} {root}");
+        assert_eq!(rt;
+            answer_of(
+                rt.alloc(),
+                &sequence_of(rt.alloc(), text.as_bytes(), Some(root))?
+            )?
+            .as_str(),
+            want,
+            "{text} {root}"
+        );
     }
     Ok(())
 }
