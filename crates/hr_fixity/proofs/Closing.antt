@@ -1,7 +1,6 @@
 -- Closing the innermost operators of a stack keeps what the productions derive.
-use Rattle.std.proofs.Common.{◌≡◌, ℕ, zero, suc, ◌+◌, ◌-◌, ◌<◌, ◌≤◌, ◌⊎◌, inl, inr, List, [], ◌∷◌, ◌++◌, length, Option, Some, None, refl, sym, ◌∙◌, ap, subst, arith, append_assoc, append-nil, length-append}
-use Rattle.hr_base.specs.declared.place.Place.{Place}
-use Rattle.hr_fixity.specs.declared.sequence.Direction.TheVariants.{Left, Right, Neither}
+use Rattle.std.proofs.Common.{◌≡◌, ℕ, suc, ◌+◌, ◌<◌, ◌≤◌, ◌⊎◌, inl, inr, List, [], ◌∷◌, ◌++◌, length, Option, Some, None, refl, sym, ◌∙◌, ap, subst, arith, append_assoc, length-append}
+use Rattle.hr_fixity.specs.declared.sequence.Direction.TheVariants.{Left, Right}
 use Rattle.hr_fixity.specs.declared.sequence.Fixity.{Fixity}
 use Rattle.hr_fixity.specs.declared.sequence.Part.{Part}
 use Rattle.hr_fixity.specs.declared.sequence.Part.TheVariants as part
@@ -15,7 +14,7 @@ use Rattle.hr_fixity.specs.Productions.{Any, LeftOnly, RightOnly, Derives}
 use Rattle.hr_fixity.specs.Productions as g
 use Rattle.hr_fixity.specs.Reader as reader
 use Rattle.hr_fixity.specs.Reader.{turn_at, turn_of, turn_between, by_turn, close, close_all, left_of, never_opens}
-use Rattle.hr_fixity.proofs.Sound.{LeftOperand, RightOperand, Node, Fit, Spine, bottom, operator, negation, literal, joins, lower, node_left, node_right, node_any, left_operand, right_operand, opens_cases}
+use Rattle.hr_fixity.proofs.Sound.{LeftOperand, RightOperand, Node, Fit, Spine, bottom, operator, negation, literal, joins, lower, node_left, node_right, node_any, right_operand, opens_cases}
 
 -- the grade of an open operator
 abbrev pub fixity_of : Open → Fixity

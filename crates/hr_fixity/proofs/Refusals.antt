@@ -1,11 +1,9 @@
 -- Where the reader stops there is no tree, and up to each operator before there is one.
-use Rattle.std.proofs.Common.{◌≡◌, ℕ, zero, suc, ◌+◌, ◌-◌, ◌<◌, ◌≤◌, Bool, List, [], ◌∷◌, ◌++◌, length, take, drop, Option, Some, None, true, false, nat_lt, nat_le, ◌&&◌, cond, refl, sym, ◌∙◌, ap, subst, arith, append_assoc, length-append}
+use Rattle.std.proofs.Common.{◌≡◌, ℕ, zero, suc, ◌+◌, ◌-◌, ◌<◌, ◌≤◌, Bool, List, [], ◌∷◌, ◌++◌, length, take, drop, Option, Some, None, true, false, nat_le, ◌&&◌, cond, refl, sym, ◌∙◌, ap, subst, arith, length-append}
 use Rattle.std.proofs.lemmas.Bool.{lt-ltb, leb-true}
 use Rattle.std.proofs.lemmas.List.{take-append-drop}
-use Rattle.std.specs.Bool.{IsTrue}
 use Rattle.std.specs.List.{slice_get}
 use Rattle.std.specs.Option.{option_and_then}
-use Rattle.hr_base.specs.declared.place.Place.{Place}
 use Rattle.hr_fixity.specs.declared.error.FixityError.{FixityError}
 use Rattle.hr_fixity.specs.declared.sequence.Awaited.{Awaited}
 use Rattle.hr_fixity.specs.declared.sequence.Awaited.TheVariants as await
@@ -16,8 +14,8 @@ use Rattle.hr_fixity.specs.declared.sequence.Part.TheVariants as part
 use Rattle.hr_fixity.specs.declared.stack.Open.{Open}
 use Rattle.hr_fixity.specs.declared.tree.Graded.{Graded}
 use Rattle.hr_fixity.specs.declared.tree.Graded.TheVariants as tree
-use Rattle.hr_fixity.specs.Sequence.{take_turns, IsRootOf, IsOperatorAt, IsSequence}
-use Rattle.hr_fixity.specs.Resolved.{HasRoot, HasNoTree, IsConflict, IsResolved, Shows, is_operator, root_up_to, up_to}
+use Rattle.hr_fixity.specs.Sequence.{take_turns, IsRootOf, IsSequence}
+use Rattle.hr_fixity.specs.Resolved.{IsConflict, IsResolved, Shows, is_operator, root_up_to, up_to}
 use Rattle.hr_fixity.specs.Reader.{run, step, close_all, left_of, keeps_root, is_empty, open_operator}
 use Rattle.hr_fixity.proofs.Running.{run-append}
 use Rattle.hr_fixity.proofs.Complete.{Finishes, complete}

@@ -1,16 +1,15 @@
 -- How the reader of sequences goes on from a stack.
-use Rattle.std.proofs.Common.{◌≡◌, ℕ, suc, ◌+◌, ◌-◌, List, [], ◌∷◌, ◌++◌, length, Option, Some, None, true, refl, sym, ◌∙◌, ap, arith}
+use Rattle.std.proofs.Common.{◌≡◌, ℕ, suc, ◌+◌, ◌-◌, List, [], ◌∷◌, ◌++◌, length, Option, Some, None, true, refl, ◌∙◌, ap, arith}
 use Rattle.std.specs.Option.{option_and_then}
 use Rattle.hr_fixity.specs.declared.sequence.Fixity.{Fixity}
 use Rattle.hr_fixity.specs.declared.sequence.Part.{Part}
 use Rattle.hr_fixity.specs.declared.sequence.Part.TheVariants as part
 use Rattle.hr_fixity.specs.declared.stack.Open.{Open}
-use Rattle.hr_fixity.specs.declared.stack.Open.TheVariants.{Operator, Minus, PatternMinus}
-use Rattle.hr_fixity.specs.declared.stack.Turn.{Turn}
-use Rattle.hr_fixity.specs.declared.stack.Turn.TheVariants.{Closes, Opens, Clashes}
+use Rattle.hr_fixity.specs.declared.stack.Open.TheVariants.{Operator}
+use Rattle.hr_fixity.specs.declared.stack.Turn.TheVariants.{Closes, Opens}
 use Rattle.hr_fixity.specs.declared.tree.Graded.{Graded}
 use Rattle.hr_fixity.specs.declared.tree.Graded.TheVariants as tree
-use Rattle.hr_fixity.specs.Reader.{run, step, turn_at, turn_of, close, close_all, left_of, by_turn, open_operator, keeps_root, is_empty}
+use Rattle.hr_fixity.specs.Reader.{run, step, turn_at, turn_of, close, close_all, left_of, open_operator, keeps_root, is_empty}
 
 abbrev pub AllClose : List Open → Fixity → Type 0
 AllClose [] f = Unit {0}

@@ -1,20 +1,16 @@
 -- Before an operator that can't be taken stands another one.
-use Rattle.std.proofs.Common.{◌≡◌, ℕ, zero, suc, ◌+◌, ◌-◌, ◌<◌, ◌≤◌, Bool, List, [], ◌∷◌, ◌++◌, length, take, drop, reverse, Option, Some, None, true, false, nat_lt, nat_eq, nat_le, cond, refl, sym, ◌∙◌, ap, subst, arith}
-use Rattle.std.proofs.lemmas.Bool.{lt-ltb, eq-eqb, eqb-false, ltb-false}
+use Rattle.std.proofs.Common.{◌≡◌, ℕ, zero, suc, ◌<◌, ◌≤◌, Bool, List, [], ◌∷◌, take, reverse, Option, Some, None, true, false, nat_lt, nat_eq, cond, refl, sym, ◌∙◌, ap, subst, arith}
+use Rattle.std.proofs.lemmas.Bool.{ltb-false}
 use Rattle.std.proofs.lemmas.List.{reverse-append}
 use Rattle.std.proofs.lemmas.List.Folds.{find-append}
-use Rattle.std.specs.Bool.{IsTrue}
 use Rattle.std.specs.List.{slice_get, find}
-use Rattle.std.specs.Option.{option_and_then, option_or, option_map, unwrap_or, is_some, IsSome}
-use Rattle.hr_base.specs.declared.place.Place.{Place}
-use Rattle.hr_fixity.specs.declared.sequence.Fixity.{Fixity}
+use Rattle.std.specs.Option.{option_and_then, option_or, is_some, IsSome}
 use Rattle.hr_fixity.specs.declared.sequence.Part.{Part}
 use Rattle.hr_fixity.specs.declared.sequence.Part.TheVariants as part
 use Rattle.hr_fixity.specs.declared.stack.Open.{Open}
-use Rattle.hr_fixity.specs.declared.tree.Graded.TheVariants as tree
 use Rattle.hr_fixity.specs.Sequence.{IsRootOf}
-use Rattle.hr_fixity.specs.Resolved.{is_operator, is_within, level_of, place_of, place_at, beside}
-use Rattle.hr_fixity.specs.Reader.{run, step, keeps_root}
+use Rattle.hr_fixity.specs.Resolved.{is_operator, is_within, place_of, place_at, beside}
+use Rattle.hr_fixity.specs.Reader.{run, step}
 
 is_found : {X : Type 0} (p : X → Bool) (xs : List X) (k : ℕ) (x : X) → slice_get xs k ≡ Some x → p x ≡ true → is_some (find p (reverse xs)) ≡ true
 is_found p [] k x e h = absurd (cc)

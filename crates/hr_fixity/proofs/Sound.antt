@@ -1,10 +1,7 @@
 -- What the reader puts on the stack closes to a tree that the productions derive.
-use Rattle.std.proofs.Common.{◌≡◌, ℕ, zero, suc, ◌+◌, ◌-◌, ◌<◌, ◌≤◌, ◌⊎◌, inl, inr, Bool, List, [], ◌∷◌, ◌++◌, length, Option, Some, None, true, false, nat_lt, nat_eq, nat_le, ◌&&◌, cond, refl, sym, ◌∙◌, ap, subst, arith, append_assoc, append-nil, length-append}
+use Rattle.std.proofs.Common.{◌≡◌, ℕ, zero, suc, ◌+◌, ◌-◌, ◌<◌, ◌≤◌, ◌⊎◌, inl, inr, Bool, List, [], ◌∷◌, ◌++◌, length, true, false, nat_lt, refl, sym, subst, arith}
 use Rattle.std.proofs.lemmas.Bool.{ltb-true, ltb-false}
-use Rattle.std.specs.Option.{option_and_then}
 use Rattle.hr_base.specs.declared.place.Place.{Place}
-use Rattle.hr_fixity.specs.declared.sequence.Awaited.{Awaited}
-use Rattle.hr_fixity.specs.declared.sequence.Awaited.TheVariants as await
 use Rattle.hr_fixity.specs.declared.sequence.Direction.{Direction}
 use Rattle.hr_fixity.specs.declared.sequence.Direction.TheVariants.{Left, Right, Neither}
 use Rattle.hr_fixity.specs.declared.sequence.Fixity.{Fixity}
@@ -12,13 +9,11 @@ use Rattle.hr_fixity.specs.declared.sequence.Part.{Part}
 use Rattle.hr_fixity.specs.declared.sequence.Part.TheVariants as part
 use Rattle.hr_fixity.specs.declared.stack.Open.{Open}
 use Rattle.hr_fixity.specs.declared.stack.Open.TheVariants as open_
-use Rattle.hr_fixity.specs.declared.stack.Turn.{Turn}
-use Rattle.hr_fixity.specs.declared.stack.Turn.TheVariants.{Closes, Opens, Clashes}
+use Rattle.hr_fixity.specs.declared.stack.Turn.TheVariants.{Closes, Opens}
 use Rattle.hr_fixity.specs.declared.tree.Graded.{Graded}
 use Rattle.hr_fixity.specs.declared.tree.Graded.TheVariants as tree
 use Rattle.hr_fixity.specs.Productions.{Any, LeftOnly, RightOnly, Derives}
 use Rattle.hr_fixity.specs.Productions as g
-use Rattle.hr_fixity.specs.Sequence.{take_turns}
 use Rattle.hr_fixity.specs.Reader as reader
 use Rattle.hr_fixity.specs.Reader.{run, step, turn_at, turn_of, turn_between, turn_at_one_level, by_turn, close, close_all, left_of, keeps_root, is_empty, open_operator, open_minus, never_opens}
 

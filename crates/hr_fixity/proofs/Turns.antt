@@ -1,11 +1,11 @@
 -- What one operator does to another, from their levels and directions.
-use Rattle.std.proofs.Common.{◌≡◌, ℕ, ◌<◌, ◌≤◌, ◌⊎◌, nat_lt, true, false, refl, sym, ◌∙◌, ap, arith, inl, inr}
+use Rattle.std.proofs.Common.{◌≡◌, ◌<◌, ◌≤◌, ◌⊎◌, refl, ◌∙◌, arith, inl, inr}
 use Rattle.std.proofs.lemmas.Bool.{lt-ltb, le-ltb}
-use Rattle.hr_fixity.specs.declared.sequence.Direction.TheVariants.{Left, Right, Neither}
+use Rattle.hr_fixity.specs.declared.sequence.Direction.TheVariants.{Left, Right}
 use Rattle.hr_fixity.specs.declared.sequence.Fixity.{Fixity}
-use Rattle.hr_fixity.specs.declared.stack.Turn.TheVariants.{Closes, Opens, Clashes}
+use Rattle.hr_fixity.specs.declared.stack.Turn.TheVariants.{Closes, Opens}
 use Rattle.hr_fixity.specs.Productions.{Nonterminal, Any, LeftOnly, RightOnly}
-use Rattle.hr_fixity.specs.Reader.{turn_between, turn_at_one_level, minus}
+use Rattle.hr_fixity.specs.Reader.{turn_between, turn_at_one_level}
 
 -- what closes a tree of the nonterminal as a left operand
 abbrev pub Looser : Nonterminal → Fixity → Type 0

@@ -1,7 +1,6 @@
 -- A whole sequence that the reader takes has the tree to which the stack closes, with the root that is demanded.
-use Rattle.std.proofs.Common.{◌≡◌, ℕ, zero, suc, ◌+◌, ◌-◌, ◌<◌, ◌≤◌, ◌⊎◌, inl, inr, Bool, List, [], ◌∷◌, ◌++◌, length, take, drop, Option, Some, None, true, false, nat_lt, nat_eq, nat_le, ◌&&◌, not, cond, refl, sym, ◌∙◌, ap, subst, arith, append_assoc, append-nil, length-append}
-use Rattle.std.proofs.lemmas.Bool.{leb-true, le-ltb}
-use Rattle.std.specs.List.{slice_get}
+use Rattle.std.proofs.Common.{◌≡◌, ℕ, suc, ◌+◌, ◌-◌, ◌≤◌, Bool, List, [], ◌∷◌, ◌++◌, length, Option, Some, None, true, false, nat_le, ◌&&◌, cond, refl, sym, ◌∙◌, ap, subst, arith, append_assoc, append-nil, length-append}
+use Rattle.std.proofs.lemmas.Bool.{leb-true}
 use Rattle.std.specs.Option.{option_and_then}
 use Rattle.hr_base.specs.declared.place.Place.{Place}
 use Rattle.hr_fixity.specs.declared.sequence.Awaited.{Awaited}
@@ -17,13 +16,11 @@ use Rattle.hr_fixity.specs.declared.tree.Graded.{Graded}
 use Rattle.hr_fixity.specs.declared.tree.Graded.TheVariants as tree
 use Rattle.hr_fixity.specs.Productions.{Any, Derives}
 use Rattle.hr_fixity.specs.Productions as g
-use Rattle.hr_fixity.specs.Sequence.{take_turns, IsRootOf}
-use Rattle.hr_fixity.specs.Resolved.{HasRoot, IsResolved}
+use Rattle.hr_fixity.specs.Sequence.{take_turns}
 use Rattle.hr_fixity.specs.Reader as reader
 use Rattle.hr_fixity.specs.Reader.{run, step, turn_at, turn_of, by_turn, close, close_all, left_of, keeps_root, is_empty, open_operator, open_minus}
-use Rattle.hr_fixity.proofs.Running.{run-append}
-use Rattle.hr_fixity.proofs.Sound.{Fit, Spine, bottom, operator, negation, literal, lower, left_operand}
-use Rattle.hr_fixity.proofs.Closing.{LeftRead, LeftSound, left_sound, close_all_sound, fit_operand}
+use Rattle.hr_fixity.proofs.Sound.{Spine, bottom, operator, negation, literal, lower, left_operand}
+use Rattle.hr_fixity.proofs.Closing.{LeftSound, left_sound, close_all_sound, fit_operand}
 
 -- what the stack is where a part of this kind is awaited
 abbrev pub At : Awaited → List Part → List Open → Type 0

@@ -2,7 +2,7 @@
 use Rattle.std.specs.Prelude.{◌≡◌, ℕ, suc, ◌-◌, ◌==◌, nat_lt, Bool, true, false, not, if◌then◌else◌, List, [], ◌∷◌, take, slice_get, Option, Some, None}
 use Rattle.std.specs.Option.{option_and_then}
 use Rattle.hr_fixity.specs.declared.sequence.Direction.{Direction}
-use Rattle.hr_fixity.specs.declared.sequence.Direction.TheVariants.{Left, Right, Neither}
+use Rattle.hr_fixity.specs.declared.sequence.Direction.TheVariants.{Left, Right}
 use Rattle.hr_fixity.specs.declared.sequence.Fixity.{Fixity}
 use Rattle.hr_fixity.specs.declared.sequence.Infix.{Infix}
 use Rattle.hr_fixity.specs.declared.sequence.Part.{Part}

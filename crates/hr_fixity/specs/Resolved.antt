@@ -1,5 +1,5 @@
 -- The trees of a sequence, and which pair of operators a refusal shows.
-use Rattle.std.specs.Prelude.{◌≡◌, ℕ, zero, suc, ◌<◌, ◌≤◌, ◌==◌, Bool, true, false, nat_le, if◌then◌else◌, List, [], ◌∷◌, ◌++◌, reverse, take, slice_get, Option, Some, None, Result, Ok, Err}
+use Rattle.std.specs.Prelude.{◌≡◌, ℕ, suc, ◌<◌, Bool, false, nat_le, if◌then◌else◌, List, [], ◌∷◌, ◌++◌, reverse, take, slice_get, Option, Some, None}
 use Rattle.std.specs.Bool.{IsTrue}
 use Rattle.std.specs.List.{find}
 use Rattle.std.specs.Option.{is_some, unwrap_or, option_map, option_or}

@@ -298,6 +298,26 @@ fn longer(alloc: Global, shorter: &[String]) -> Result<Vec<String>, AllocError> 
     Ok(found)
 }
 
+/// Whether `resolve` gives what the enumeration gives, with each root that can be demanded.
+fn agrees(alloc: Global, text: &str) -> Result<bool, AllocError> {
+    let mut seq = sequence_of(alloc, text.as_bytes(), None)?;
+    let all = Enumeration::new(alloc, seq.parts.as_slice())?;
+    if resolved(alloc, &seq)? != all.answer(alloc, seq.parts.as_slice(), None)? {
+        return Ok(false);
+    }
+    let mut root = 0u32;
+    for _ in 0..seq.parts.len() {
+        seq.root = Some(root);
+        if seq.is_sequence()
+            && resolved(alloc, &seq)? != all.answer(alloc, seq.parts.as_slice(), Some(root))?
+        {
+            return Ok(false);
+        }
+        root = root.saturating_add(1);
+    }
+    Ok(true)
+}
+
 #[test]
 fn resolve_agrees_with_the_enumeration(rt: HostRuntime) -> Result<(), Fail> {
     let alloc = rt.alloc();
@@ -305,20 +325,7 @@ fn resolve_agrees_with_the_enumeration(rt: HostRuntime) -> Result<(), Fail> {
     for _ in 0..OPERATORS {
         texts = longer(alloc, &texts)?;
         for text in &texts {
-            let mut seq = sequence_of(alloc, text.as_bytes(), None)?;
-            let all = Enumeration::new(alloc, seq.parts.as_slice())?;
-            assert_eq!(rt;
-                resolved(alloc, &seq)?,
-                all.answer(alloc, seq.parts.as_slice(), None)?,
-                "{text}"
-            );
-            for root in 0..seq.parts.len() as u32 {
-                seq.root = Some(root);
-                if seq.is_sequence() {
-                    let want = all.answer(alloc, seq.parts.as_slice(), seq.root)?;
-                    assert_eq!(rt; resolved(alloc, &seq)?, want, "{text} {root}");
-                }
-            }
+            assert!(rt; agrees(alloc, text)?, "{text}");
         }
     }
     Ok(())

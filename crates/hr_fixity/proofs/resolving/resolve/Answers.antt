@@ -1,4 +1,4 @@
-use Rattle.std.proofs.Common.{◌≡◌, [], Some, None, take, ap, ◌∙◌}
+use Rattle.std.proofs.Common.{◌≡◌, [], Some, take, ap, ◌∙◌}
 use Rattle.hr_fixity.specs.Reader.{StopsAt, run}
 use Rattle.hr_fixity.proofs.Answered.{found, is_part, left_place, nothing, only, refusal, right_place}
 use Rattle.hr_fixity.proofs.resolving.resolve.Goals as goal

@@ -1,4 +1,4 @@
-use Rattle.std.proofs.Common.{◌≡◌, ◌<◌, length, Some, List, subst, refl}
+use Rattle.std.proofs.Common.{◌≡◌, length, Some, List, subst, refl}
 use Rattle.std.proofs.lemmas.Option.{slice_get_read}
 use Rattle.std.specs.List.{slice_get}
 use Rattle.hr_fixity.specs.declared.sequence.Part.{Part}
