@@ -1,0 +1,10 @@
+//! Types and type schemes: equality, instances, and their spelling in a scope.
+#![tactic(auto)]
+
+mod general;
+mod mono;
+mod same;
+
+pub use general::{instance, is_variable, look_up};
+pub use mono::{Mono, Scheme, copies_of, is_same_entity};
+pub use same::are_same;
