@@ -66,3 +66,6 @@ pub fun-fun : (a b c d : Mono) → Fun a b ≡ Fun c d → (a ≡ c) × (b ≡ d
 fun-fun a b c d h = let k : ◌≡◌ {A = Mono-F Mono} (Mono-F.Fun a b) (Mono-F.Fun c d) = fun_layer a b (Fun c d) h ∙ outs-Fun c d in (cc, cc)
 
 pub ruleset kinds = (var-var, var-con, var-fun, con-fun, con-con, fun-fun)
+
+-- the equations of `value`, for tactics
+pub ruleset layers = (value-var, value-con, value-fun)

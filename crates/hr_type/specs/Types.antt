@@ -1,7 +1,10 @@
 -- Types as terms: what is computed along a type, its variables, and what becomes of it under a substitution.
-use Rattle.std.specs.Prelude.{◌≡◌, ◌==◌, ℕ, List, [], ◌∷◌, ◌++◌, if◌then◌else◌, nat_lt, Option, Some, None}
+use Rattle.std.specs.Prelude.{◌≡◌, ◌==◌, ℕ, Bool, true, false, ◌&&◌, nat_eq, List, [], ◌∷◌, ◌++◌, if◌then◌else◌, nat_lt, Option, Some, None}
 use Rattle.std.specs.List.{concat}
+use Rattle.std.specs.Cmp.Lexicographic.{pointwise}
 use Rattle.hr_base.specs.declared.bind.Entity.{Entity}
+use Rattle.hr_base.specs.declared.bind.Space.{Space}
+use Rattle.hr_base.specs.declared.bind.Space.TheVariants.{Value, Constructor, TypeName}
 use Rattle.hr_type.specs.declared.mono.Mono.{Mono}
 use Rattle.hr_type.specs.declared.mono.Mono.TheVariants.{Var, Con, Fun}
 use Rattle.hr_type.specs.declared.mono.Mono.TheOpen.{Mono-F}
@@ -39,3 +42,13 @@ IsInstance general special = (by : ℕ → Mono) × (replaced (bounded general.b
 abbrev pub first_for : ℕ → List (ℕ × Mono) → Option Mono
 first_for n [] = None
 first_for n (p ∷ ps) = if p.0 == n then Some p.1 else first_for n ps
+
+-- whether two entities are one, as a test
+abbrev pub same_space : Space → Space → Bool
+same_space Value Value = true
+same_space Constructor Constructor = true
+same_space TypeName TypeName = true
+same_space _ _ = false
+
+abbrev pub same_entity : Entity → Entity → Bool
+same_entity a b = same_space a.space b.space && (pointwise nat_eq a.text b.text && pointwise nat_eq a.«module» b.«module»)

@@ -3,8 +3,13 @@
 
 mod general;
 mod mono;
+mod print;
 mod same;
+mod spell;
+mod write;
 
 pub use general::{instance, is_variable, look_up};
 pub use mono::{Mono, Scheme, copies_of, is_same_entity};
+pub use spell::{Brackets, TypeScope};
+pub use print::print_in;
 pub use same::are_same;

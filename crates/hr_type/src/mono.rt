@@ -1,4 +1,5 @@
 ghost use Rattle.std.specs.Prelude.{◌≡◌, ◌↔◌, IfOk, IsTrue};
+ghost use Rattle.hr_type.specs.Types.{same_entity};
 
 use hr_base::Entity;
 use sqlite_items::{Boxed, Items};
@@ -61,7 +62,8 @@ fn entity_copied(entity: &Entity) -> Result<Entity, AllocError>
 
 /// Whether two entities are one.
 pub fn is_same_entity(left: &Entity, right: &Entity) -> bool
-    ensures { IsTrue result ↔ (left.now ≡ right.now) }
+    ensures exact { IsTrue result ↔ (left.now ≡ right.now) }
+    ensures test { result ≡ same_entity left.now right.now }
 {
     left.space == right.space
         && left.text.is(right.text.as_slice())

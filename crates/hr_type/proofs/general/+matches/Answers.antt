@@ -9,7 +9,7 @@ use Rattle.hr_type.proofs.general.+matches.Goals as goal
 
 pub matches-returns-then-not-is_same_entity : goal.matches-returns-then-not-is_same_entity
 matches-returns-then-not-is_same_entity t c = λ by f r.
-    false≢true (sym c.if-not-is_same_entity.true ∙ c.is_same_entity.ensures.1 (con_parts (bounded c.args.bound by) _ _ _ _ _ _ c.in-Con.is c.in-Con-special.is r).0)
+    false≢true (sym c.if-not-is_same_entity.true ∙ c.is_same_entity.ensures.exact.1 (con_parts (bounded c.args.bound by) _ _ _ _ _ _ c.in-Con.is c.in-Con-special.is r).0)
 
 pub matches-returns-in-Var : goal.matches-returns-in-Var
 matches-returns-in-Var t c =
@@ -30,7 +30,7 @@ matches-returns-in-Con-special-2 t c = λ by f r. fun_is_con (bounded c.args.bou
 pub matches-returns-else-not-is_same_entity : goal.matches-returns-else-not-is_same_entity
 matches-returns-else-not-is_same_entity t c =
     settled_same c.match_all.result _ _ _ _
-    (λ by e. con_made (bounded c.args.bound by) _ _ _ _ _ _ c.in-Con.is c.in-Con-special.is (c.is_same_entity.ensures.0 c.if-not-is_same_entity.false)
+    (λ by e. con_made (bounded c.args.bound by) _ _ _ _ _ _ c.in-Con.is c.in-Con-special.is (c.is_same_entity.ensures.exact.0 c.if-not-is_same_entity.false)
       (ap (map (replaced (bounded c.args.bound by))) (sym c.as_slice.ensures) ∙ e ∙ c.as_slice-in-Con-special.ensures))
     (λ by r. ap (map (replaced (bounded c.args.bound by))) c.as_slice.ensures ∙ (con_parts (bounded c.args.bound by) _ _ _ _ _ _ c.in-Con.is c.in-Con-special.is r).1 ∙ sym c.as_slice-in-Con-special.ensures)
     c.match_all.ensures
