@@ -1,5 +1,7 @@
 -- How types are written, kind by kind, and the bytes of several pieces.
-use Rattle.std.proofs.Common.{◌≡◌, ◌==◌, if◌then◌else◌, ℕ, List, [], ◌∷◌, ◌++◌, map, Option, Some, None, slice_get, Result, Ok, Err, OnOk, nat_lt, codes, length, drop, get_or, ◌<◌, ◌+◌, suc, zero, true, false, cond, refl, ap, ◌∙◌, append_assoc, append-nil, sym, drop-cons, add-one, arith, inl, inr}
+use Rattle.std.specs.List.{list_all}
+use Rattle.std.proofs.lemmas.List.{length-map}
+use Rattle.std.proofs.Common.{◌≡◌, ◌==◌, ◌&&◌, Bool, if◌then◌else◌, ℕ, List, [], ◌∷◌, ◌++◌, map, Option, Some, None, slice_get, Result, Ok, Err, OnOk, nat_lt, codes, length, drop, get_or, ◌<◌, ◌+◌, suc, zero, true, false, cond, refl, ap, ◌∙◌, append_assoc, append-nil, sym, drop-cons, add-one, arith, inl, inr}
 use Rattle.std.proofs.lemmas.Bool.{eq-eqb}
 use Rattle.std.proofs.lemmas.Bool.Decides.{eqb_tells}
 use Rattle.hr_base.specs.declared.bind.Entity.{Entity}
@@ -100,3 +102,19 @@ module _ (f : Mono → Written) (ts : List Mono) (i : ℕ) (t : Mono) (inside : 
       let joined : ((o ++ codes ", ") ++ bytes_of (f t).pieces) ++ bytes_of (spec.listed_rest ws) ≡ o ++ 44 ∷ 32 ∷ (bytes_of (f t).pieces ++ bytes_of (spec.listed_rest ws)) = simp append_assoc in
       ap (λ x. n ++ bytes_of x) (listed_from_later (i + 1) ws later) ∙ ap (λ x. x ++ bytes_of (spec.listed_rest ws)) (q ∙ ap (λ x. x ++ bytes_of (f t).pieces) p) ∙ joined
       ∙ ap (λ x. o ++ 44 ∷ 32 ∷ x) (sym (bytes_of-append (f t).pieces (spec.listed_rest ws))) ∙ sym (ap (λ x. o ++ bytes_of x) (listed_from_later i (map f (drop i ts)) z ∙ ap spec.listed_rest here)) ∙ e
+
+pub arities_con : (t : Mono) (e : Entity) (ts : List Mono) → t ≡ Con e ts
+    → spec.has_arities t ≡ (spec.fits_arity e (length ts) (brackets_of e) && list_all (λ b. b) (map spec.has_arities ts))
+arities_con t e ts h =
+    ap spec.has_arities h ∙ value-con _ _ _ _ e ts
+    ∙ ap (λ n. spec.fits_arity e n (brackets_of e) && list_all (λ b. b) (map spec.has_arities ts)) (length-map ts spec.has_arities)
+
+pub arities_fit : (t : Mono) (e : Entity) (ts us : List Mono) (n : ℕ) (fits rest : Bool) → t ≡ Con e ts → n ≡ length ts → us ≡ ts → fits ≡ spec.fits_arity e n (brackets_of e) → fits ≡ true
+    → rest ≡ list_all (λ b. b) (map spec.has_arities us) → rest ≡ spec.has_arities t
+arities_fit t e ts us n fits rest h count same f holds r =
+    r ∙ ap (λ xs. list_all (λ b. b) (map spec.has_arities xs)) same
+    ∙ ap (λ b. b && list_all (λ b. b) (map spec.has_arities ts)) (sym holds ∙ f ∙ ap (λ k. spec.fits_arity e k (brackets_of e)) count) ∙ sym (arities_con t e ts h)
+
+pub arities_fail : (t : Mono) (e : Entity) (ts : List Mono) (n : ℕ) (fits : Bool) → t ≡ Con e ts → n ≡ length ts → fits ≡ spec.fits_arity e n (brackets_of e) → fits ≡ false → fits ≡ spec.has_arities t
+arities_fail t e ts n fits h count f fails =
+    fails ∙ ap (λ b. b && list_all (λ b. b) (map spec.has_arities ts)) (sym fails ∙ f ∙ ap (λ k. spec.fits_arity e k (brackets_of e)) count) ∙ sym (arities_con t e ts h)

@@ -1,6 +1,6 @@
 -- How a type is written: arrows to the right, arguments behind their constructor, lists, tuples and () in their own
 -- brackets (Haskell 98 Report, section 4.1.2), with parentheses only where the grammar needs them.
-use Rattle.std.specs.Prelude.{ℕ, ◌-◌, Bool, true, false, ◌&&◌, ◌||◌, ◌==◌, nat_eq, nat_lt, if◌then◌else◌, List, [], ◌∷◌, ◌++◌, length, Option, Some, None, is_some, codes, slice_get}
+use Rattle.std.specs.Prelude.{ℕ, ◌-◌, Bool, true, false, not, ◌&&◌, ◌||◌, ◌==◌, nat_eq, nat_lt, if◌then◌else◌, List, [], ◌∷◌, ◌++◌, length, Option, Some, None, is_some, codes, slice_get}
 use Rattle.std.specs.List.{list_all, list_any}
 use Rattle.std.specs.Cmp.Lexicographic.{pointwise}
 use Rattle.hr_base.specs.declared.bind.Entity.{Entity}
@@ -42,9 +42,12 @@ abbrev pub arity_by : ℕ → Brackets → ℕ
 arity_by size Square = 1
 arity_by size Round = if size == 2 then 0 else size - 1
 
+abbrev pub is_arrow : Entity → Bool
+is_arrow e = (is_type_name e.space && pointwise nat_eq e.«module» (codes "Prelude")) && pointwise nat_eq e.text (codes "->")
+
 abbrev pub fits_arity : Entity → ℕ → Option Brackets → Bool
 fits_arity e n (Some brackets) = n == arity_by (length e.text) brackets
-fits_arity e n None = if is_prelude_type e then (if pointwise nat_eq e.text (codes "->") then false else true) else true
+fits_arity e n None = not (is_arrow e)
 
 -- in the type `->` stands as a function type alone, and lists, tuples and () have their numbers of arguments
 abbrev pub has_arities : Mono → Bool

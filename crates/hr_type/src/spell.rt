@@ -68,7 +68,7 @@ fn brackets_by(text: &[u8]) -> Option<Brackets>
     None
 }
 
-fn is_type_name(space: Space) -> bool
+pub fn is_type_name(space: Space) -> bool
     ensures { result ≡ spec.is_type_name space }
 {
     match space {
@@ -78,7 +78,7 @@ fn is_type_name(space: Space) -> bool
     }
 }
 
-fn is_prelude(name: &[u8]) -> bool
+pub fn is_prelude(name: &[u8]) -> bool
     ensures { result ≡ pointwise nat_eq name.now (codes "Prelude") }
 {
     name == b"Prelude".as_slice()
