@@ -1,3 +1,6 @@
+pub mod Binding
 pub mod Lists
-pub mod Values
+pub mod Meaning
+pub mod Relates
 pub mod Solving
+pub mod Values

@@ -40,7 +40,7 @@ head_free p ps g = distinct_none p.0 ps g.distinct.0
 
 module _ (A : Type 0) (applied : Entity → List A → A) (function : A → A → A) (step : A → A) where
   -- each pair's variable has one step on its type's value, and a variable without a pair the value that is given
-  pub solve : Pairs → (ℕ → A) → ℕ → A
+  unfoldable pub solve : Pairs → (ℕ → A) → ℕ → A
   solve [] given = given
   solve (p ∷ ps) given = solve ps (update p.0 (step (value A applied function (solve ps given) p.1)) given)
 

@@ -43,3 +43,7 @@ pub record Keeps (es : Equations) (pairs : Pairs) (work : List Work) (settled : 
   pub sound : (by : ℕ → Mono) → Unifies by (halves pairs) → AllByRecursion (Equals by) work → Unifies by es
   pub waits : Waits pairs work
   pub repeats : (by : ℕ → Mono) → Unifies by (halves pairs) → Unifies by (halves settled)
+
+-- a variable is another one, and doesn't lead to it
+abbrev pub Avoids : Pairs → ℕ → ℕ → Type 0
+Avoids pairs x n = (n ≡ x → ⊥) × (Reaches pairs n x → ⊥)
