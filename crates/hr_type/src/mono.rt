@@ -54,7 +54,8 @@ pub fn copies_of(alloc: Global, types: &[Mono]) -> Result<Items<Mono>, AllocErro
     Ok(copies)
 }
 
-fn entity_copied(entity: &Entity) -> Result<Entity, AllocError>
+/// An entity equal to this one.
+pub fn entity_copied(entity: &Entity) -> Result<Entity, AllocError>
     ensures { IfOk result (λ copy. copy ≡ entity.now) }
 {
     entity.clone()

@@ -6,6 +6,7 @@ use Rattle.std.proofs.lemmas.Bool.Decides.{eqb_tells}
 use Rattle.hr_type.specs.declared.mono.Mono.{Mono}
 use Rattle.hr_type.specs.Types.{first_for}
 use Rattle.hr_unify.specs.Unifiers.{IsOneOf, Pairs}
+use Rattle.hr_unify.specs.Weights.{update}
 
 module _ {X : Type 0} (P : X → Type 0) where
   pub each_of : (xs : List X) (x : X) → Each P xs → IsOneOf x xs → P x
@@ -62,10 +63,6 @@ module _ {X : Type 0} (x : X) where
 
 cond_is : {X : Type 0} (b t : Bool) (x y : X) → b ≡ t → cond b x y ≡ cond t x y
 cond_is b t x y e = ap (λ v. cond v x y) e
-
--- a function with another value at one number
-pub update : {A : Type 0} → ℕ → A → (ℕ → A) → ℕ → A
-update n a f m = cond (eqb m n) a (f m)
 
 pub update_here : {A : Type 0} (n : ℕ) (a : A) (f : ℕ → A) → update n a f n ≡ a
 unfolding update

@@ -7,9 +7,10 @@ use Rattle.hr_type.specs.declared.mono.Mono.TheVariants.{Var, Con, Fun}
 use Rattle.hr_type.specs.Types.{replaced, variables, first_for}
 use Rattle.hr_type.proofs.Terms.{value-var}
 use Rattle.hr_unify.specs.Unifiers.{IsOneOf, Pairs, Equations, Unifies, halves, IsGood, IsMeaning, IsMostGeneral, Solves}
-use Rattle.hr_unify.proofs.Lists.{each_from, each_of, each_map, each_unmap, update, update_here, update_there}
+use Rattle.hr_unify.proofs.Lists.{each_from, each_of, each_map, each_unmap, update_here, update_there}
 use Rattle.hr_unify.proofs.Values.{value_agrees, value_fuses}
-use Rattle.hr_unify.proofs.Solving.{solve, solve_free, solve_bound}
+use Rattle.hr_unify.specs.Weights.{solve, update}
+use Rattle.hr_unify.proofs.Solving.{solve_free, solve_bound}
 
 pub meaning : Pairs → ℕ → Mono
 meaning ps = solve Mono Con Fun (λ t. t) ps Var

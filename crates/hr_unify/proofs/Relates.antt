@@ -9,6 +9,7 @@ use Rattle.hr_type.specs.Types.{value, replaced, variables}
 use Rattle.hr_type.proofs.Terms.{every_type, value-var, value-con, value-fun, con-con, fun-fun}
 use Rattle.hr_unify.specs.Unifiers.{IsOneOf, Equations, Unifies}
 use Rattle.hr_unify.specs.Refusals.{Related, given, same, turned, chained, argument, domain, range, applied, from, to, Head, no_head, arrow_head, head, layer_head, head_of, Clashes, HoldsItself, HasNoUnifier}
+use Rattle.hr_unify.specs.Weights.{total, mass}
 use Rattle.hr_unify.proofs.Lists.{each_of, one_cases}
 use Rattle.hr_unify.proofs.Values.{value_fuses, variables_var, variables_con, variables_fun}
 
@@ -60,14 +61,6 @@ head_kept by =
 pub clash_refuses : (es : Equations) (l r : Mono) → Clashes es l r → HasNoUnifier es
 clash_refuses es l r c = λ by u. c.differ (sym (head_kept by l c.left_applied) ∙ ap head_of (related_equal es by u l r c.related) ∙ head_kept by r c.right_applied)
 
--- how large a type is, with a weight for each variable
-total : List ℕ → ℕ
-total [] = 0
-total (n ∷ ns) = n + total ns
-
-mass : (ℕ → ℕ) → Mono → ℕ
-mass = value ℕ (λ _ ns. suc (total ns)) (λ m n. suc (m + n))
-
 IsHeavy : (ℕ → ℕ) → ℕ → Mono → Type 0
 IsHeavy f v t = IsOneOf v (variables t) → f v ≤ mass f t
 
@@ -80,7 +73,7 @@ heavy_var f v n one = at_var (subst (IsOneOf v) (variables_var n) one)
     at_var (inr h) = absurd h
 
 heavy_all : (f : ℕ → ℕ) (v : ℕ) (ts : List Mono) → Each (IsHeavy f v) ts → IsOneOf v (concat (map variables ts)) → f v ≤ total (map (mass f) ts)
-unfolding IsHeavy total
+unfolding IsHeavy
 heavy_all f v [] claims one = absurd one
 heavy_all f v (t ∷ ts) claims one = by_part (one_cases v (variables t) (concat (map variables ts)) one) (λ k. heavy_all f v ts claims.1 k)
   where

@@ -6,7 +6,9 @@ use Rattle.hr_base.specs.declared.bind.Entity.{Entity}
 use Rattle.hr_type.specs.declared.mono.Mono.{Mono}
 use Rattle.hr_type.specs.Types.{value, variables, first_for}
 use Rattle.hr_unify.specs.Unifiers.{IsOneOf, Pairs, Reaches, at_once, through, IsGood}
-use Rattle.hr_unify.proofs.Lists.{each_from, update, update_here, update_there, none_parts, distinct_none}
+use Rattle.hr_unify.specs.Weights as weights
+use Rattle.hr_unify.specs.Weights.{update}
+use Rattle.hr_unify.proofs.Lists.{each_from, update_here, update_there, none_parts, distinct_none}
 use Rattle.hr_unify.proofs.Values.{value_agrees}
 
 -- paths from variable to variable
@@ -39,13 +41,11 @@ unfolding IsDistinct
 head_free p ps g = distinct_none p.0 ps g.distinct.0
 
 module _ (A : Type 0) (applied : Entity → List A → A) (function : A → A → A) (step : A → A) where
-  -- each pair's variable has one step on its type's value, and a variable without a pair the value that is given
-  unfoldable pub solve : Pairs → (ℕ → A) → ℕ → A
-  solve [] given = given
-  solve (p ∷ ps) given = solve ps (update p.0 (step (value A applied function (solve ps given) p.1)) given)
+  abbrev solve : Pairs → (ℕ → A) → ℕ → A
+  solve = weights.solve A applied function step
 
   pub solve_free : (ps : Pairs) (given : ℕ → A) (n : ℕ) → first_for n ps ≡ None → solve ps given n ≡ given n
-  unfolding solve
+  unfolding weights.solve
   solve_free [] given n e = refl
   solve_free (p ∷ ps) given n e =
       let parts = none_parts n p ps e in
@@ -53,7 +53,7 @@ module _ (A : Type 0) (applied : Entity → List A → A) (function : A → A �
 
   -- a value depends on what is given for the variables that are reached alone
   solve_agrees : (ps : Pairs) (f g : ℕ → A) (y : ℕ) → ((z : ℕ) → (z ≡ y) ⊎ Reaches ps y z → f z ≡ g z) → solve ps f y ≡ solve ps g y
-  unfolding solve
+  unfolding weights.solve
   solve_agrees [] f g y h = h y (inl refl)
   solve_agrees (p ∷ ps) f g y h =
       solve_agrees ps (update p.0 (step (value A applied function (solve ps f) p.1)) f) (update p.0 (step (value A applied function (solve ps g) p.1)) g) y
@@ -90,7 +90,7 @@ module _ (A : Type 0) (applied : Entity → List A → A) (function : A → A �
       solve_free ps (next ps p given) p.0 (head_free p ps good) ∙ update_here p.0 (step (value A applied function (solve ps given) p.1)) given ∙ ap step (same_below ps p given good)
 
   pub solve_bound : (ps : Pairs) (given : ℕ → A) (x : ℕ) (t : Mono) → IsGood ps → IsOneOf (x, t) ps → solve ps given x ≡ step (value A applied function (solve ps given) t)
-  unfolding solve
+  unfolding weights.solve
   solve_bound [] given x t good one = absurd one
   solve_bound (p ∷ ps) given x t good (inr one) = solve_bound ps (next ps p given) x t (good_tail p ps good) one
   solve_bound (p ∷ ps) given x t good (inl e) =

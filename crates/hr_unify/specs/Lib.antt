@@ -1,3 +1,4 @@
 pub mod Refusals
 pub mod Unifiers
+pub mod Weights
 pub mod Working
