@@ -1,5 +1,6 @@
 pub mod Binding
 pub mod Finding
+pub mod Keeping
 pub mod Lists
 pub mod Loads
 pub mod Meaning

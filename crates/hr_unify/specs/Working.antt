@@ -1,15 +1,16 @@
 -- What solving keeps between its steps.
-use Rattle.std.specs.Prelude.{◌≡◌, ◌<◌, ℕ, List, [], ◌∷◌, ◌++◌, map, length, slice_set, slice_index_or, Option, Some, None, Result, Ok, Err}
+use Rattle.std.specs.Prelude.{◌≡◌, ◌<◌, ◌⊎◌, ℕ, List, [], ◌∷◌, ◌++◌, map, length, slice_set, slice_index_or, Option, Some, None, Result, Ok, Err}
 use Rattle.std.specs.List.{AllByRecursion, concat}
+use Rattle.hr_base.specs.declared.bind.Entity.{Entity}
 use Rattle.hr_type.specs.declared.mono.Mono.{Mono}
-use Rattle.hr_type.specs.declared.mono.Mono.TheVariants.{Var}
+use Rattle.hr_type.specs.declared.mono.Mono.TheVariants.{Var, Con}
 use Rattle.hr_type.specs.Types.{replaced, variables, first_for}
 use Rattle.hr_unify.specs.declared.work.Work.{Work}
 use Rattle.hr_unify.specs.declared.work.Work.TheVariants.{Equation, Settled}
-use Rattle.hr_unify.specs.Unifiers.{Pairs, Equations, IsOneOf, Unifies, halves, Reaches}
+use Rattle.hr_unify.specs.Unifiers.{Pairs, Equations, IsOneOf, Unifies, halves, Reaches, IsGood}
 use Rattle.hr_unify.specs.declared.solve.UnifyError.{UnifyError}
 use Rattle.hr_unify.specs.declared.solve.UnifyError.TheVariants.{Mismatch, Occurs, Memory}
-use Rattle.hr_unify.specs.Refusals.{Related, Clashes, head_of, no_head}
+use Rattle.hr_unify.specs.Refusals.{Related, Clashes, head_of, no_head, head}
 
 -- the variables of equations
 abbrev pub names : Equations → List ℕ
@@ -89,3 +90,26 @@ MayBind pairs x ty (Ok done) = AllByRecursion (Avoids pairs x) (variables ty)
 MayBind pairs x ty (Err (Occurs y found)) = (y ≡ x) × Related (halves pairs) ty found × IsOneOf x (variables found) × (found ≡ Var x → ⊥)
 MayBind pairs x ty (Err (Mismatch left right)) = ⊥
 MayBind pairs x ty (Err (Memory e)) = Unit {0}
+
+-- the type of a variable put in its place, unless its equation was settled before
+abbrev pub Opens : Pairs → ℕ → Mono → Mono → List Work → List Work → Type 0
+Opens settled x ty other old new = (IsOneOf {X = ℕ × Mono} (x, other) settled × (new ≡ old)) ⊎ (new ≡ old ++ Settled x other ∷ Equation ty other ∷ [])
+
+-- the equations of arguments in turn, the first on top
+abbrev pub paired : List Mono → List Mono → List Work
+paired [] us = []
+paired (t ∷ ts) [] = []
+paired (t ∷ ts) (u ∷ us) = paired ts us ++ Equation t u ∷ []
+
+-- two types of constructors: their arguments in turn where the constructors and the numbers of arguments are equal
+abbrev pub Splits : Entity → List Mono → Entity → List Mono → List Work → List Work → Result (Option (ℕ × Mono)) UnifyError → Type 0
+Splits e ts f us old new (Ok None) = (e ≡ f) × (length ts ≡ length us) × (new ≡ old ++ paired ts us)
+Splits e ts f us old new (Ok (Some b)) = ⊥
+Splits e ts f us old new (Err (Mismatch left right)) = (left ≡ Con e ts) × (right ≡ Con f us) × (head e (length ts) ≡ head f (length us) → ⊥)
+Splits e ts f us old new (Err (Occurs x ty)) = ⊥
+Splits e ts f us old new (Err (Memory m)) = Unit {0}
+
+-- what adding a pair answers
+abbrev pub Extends : Pairs → ℕ → Mono → Pairs → Result (Unit {0}) UnifyError → Type 0
+Extends old x ty new (Ok done) = (new ≡ old ++ (x, ty) ∷ []) × IsGood new
+Extends old x ty new (Err e) = MayBind old x ty (Err e)

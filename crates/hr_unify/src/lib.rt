@@ -5,6 +5,10 @@ mod find;
 mod solve;
 mod split;
 mod step;
+#[cfg(test)]
+mod tests;
+mod unifier;
 mod work;
 
 pub use solve::{Subst, UnifyError};
+pub use unifier::unify;

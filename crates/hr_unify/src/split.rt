@@ -1,63 +1,42 @@
-use crate::UnifyError;
+ghost use Rattle.std.specs.Prelude.{◌≡◌, ◌++◌, ◌∷◌, [], OnOk, length};
+ghost use Rattle.hr_unify.specs.declared.work.Work.TheVariants.{Equation};
+ghost use Rattle.hr_unify.specs.Working.{paired};
+
 use crate::work::Work;
-use hr_type::{Mono, is_same_entity};
-use sqlite_items::Items;
+use hr_type::Mono;
+use sqlite_items::{Boxed, Items};
 use std::alloc::AllocError;
 
-/// The parts of two types of one constructor, the first parts on top.
-pub fn split(left: Mono, right: Mono, work: &mut Vec<Work>) -> Result<(), UnifyError> {
-    match left {
-        Mono::Fun(from, to) => match right {
-            Mono::Fun(other_from, other_to) => {
-                push(work, to.into_inner(), other_to.into_inner()).map_err(UnifyError::Memory)?;
-                push(work, from.into_inner(), other_from.into_inner()).map_err(UnifyError::Memory)?;
-                Ok(())
-            }
-            Mono::Con(entity, arguments) => Err(UnifyError::Mismatch {
-                left: Mono::Fun(from, to),
-                right: Mono::Con(entity, arguments),
-            }),
-            Mono::Var(variable) => Err(UnifyError::Mismatch {
-                left: Mono::Fun(from, to),
-                right: Mono::Var(variable),
-            }),
-        },
-        Mono::Con(entity, arguments) => match right {
-            Mono::Con(other, others) => {
-                if !is_same_entity(&entity, &other) || arguments.len() != others.len() {
-                    return Err(UnifyError::Mismatch {
-                        left: Mono::Con(entity, arguments),
-                        right: Mono::Con(other, others),
-                    });
-                }
-                push_all(work, arguments, others).map_err(UnifyError::Memory)
-            }
-            Mono::Fun(from, to) => Err(UnifyError::Mismatch {
-                left: Mono::Con(entity, arguments),
-                right: Mono::Fun(from, to),
-            }),
-            Mono::Var(variable) => Err(UnifyError::Mismatch {
-                left: Mono::Con(entity, arguments),
-                right: Mono::Var(variable),
-            }),
-        },
-        Mono::Var(variable) => Err(UnifyError::Mismatch {
-            left: Mono::Var(variable),
-            right,
-        }),
-    }
+/// The equations of the parts of two function types, that of the arguments on top.
+pub fn split_function(
+    from: Boxed<Mono>,
+    to: Boxed<Mono>,
+    other_from: Boxed<Mono>,
+    other_to: Boxed<Mono>,
+    work: &mut Vec<Work>,
+) -> Result<(), AllocError>
+    ensures { OnOk result (work.new.items ≡ work.old.items ++ Equation to other_to ∷ Equation from other_from ∷ []) }
+{
+    push(work, to.into_inner(), other_to.into_inner())?;
+    push(work, from.into_inner(), other_from.into_inner())
 }
 
-fn push(work: &mut Vec<Work>, left: Mono, right: Mono) -> Result<(), AllocError> {
+fn push(work: &mut Vec<Work>, left: Mono, right: Mono) -> Result<(), AllocError>
+    ensures { OnOk result (work.new.items ≡ work.old.items ++ Equation left right ∷ []) }
+{
     work.push(Work::Equation(left, right))?;
     Ok(())
 }
 
-fn push_all(
+/// The equations of the arguments of one constructor, the first on top.
+pub fn split_arguments(
     work: &mut Vec<Work>,
     mut lefts: Items<Mono>,
     mut rights: Items<Mono>,
-) -> Result<(), AllocError> {
+) -> Result<(), AllocError>
+    requires { length lefts ≡ length rights }
+    ensures { OnOk result (work.new.items ≡ work.old.items ++ paired lefts rights) }
+{
     while let Some(left) = lefts.pop() {
         if let Some(right) = rights.pop() {
             push(work, left, right)?;

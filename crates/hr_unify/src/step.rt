@@ -5,12 +5,14 @@ ghost use Rattle.hr_type.specs.Types.{first_for};
 ghost use Rattle.hr_unify.specs.declared.work.Work.TheVariants.{Equation};
 ghost use Rattle.hr_unify.specs.Unifiers.{Equations, IsGood, IsOneOf};
 ghost use Rattle.hr_unify.specs.Weights.{work_load};
-ghost use Rattle.hr_unify.specs.Working.{Goes, Keeps};
+ghost use Rattle.hr_unify.specs.Working.{Goes, Keeps, Opens, Splits};
 
 use crate::UnifyError;
-use crate::split::split;
+use crate::split::{split_arguments, split_function};
 use crate::work::Work;
-use hr_type::{Mono, is_variable, look_up};
+use hr_base::Entity;
+use hr_type::{Mono, is_same_entity, is_variable, look_up};
+use sqlite_items::Items;
 use std::alloc::{AllocError, Global};
 
 /// Does the work until a variable is to be bound to a type, or none is left.
@@ -48,16 +50,84 @@ fn step(
 {
     match item {
         Work::Settled(variable, ty) => {
-            settled.push((variable, ty)).map_err(AllocError::from).map_err(UnifyError::Memory)?;
+            settle(variable, ty, settled).map_err(UnifyError::Memory)?;
             Ok(None)
         }
-        Work::Equation(Mono::Var(variable), other) => meet(alloc, pairs, variable, other, work, settled),
-        Work::Equation(other, Mono::Var(variable)) => meet(alloc, pairs, variable, other, work, settled),
-        Work::Equation(left, right) => {
-            split(left, right, work)?;
-            Ok(None)
-        }
+        Work::Equation(left, right) => equate(alloc, pairs, left, right, work, settled.as_slice()),
     }
+}
+
+fn settle(
+    variable: u32,
+    ty: Mono,
+    settled: &mut Vec<(u32, Mono)>,
+) -> Result<(), AllocError>
+    ensures { OnOk result (settled.new.items ≡ settled.old.items ++ (variable, ty) ∷ []) }
+{
+    settled.push((variable, ty))?;
+    Ok(())
+}
+
+/// One equation: the equations of its parts, or a variable against a type.
+fn equate(
+    alloc: Global,
+    pairs: &[(u32, Mono)],
+    left: Mono,
+    right: Mono,
+    work: &mut Vec<Work>,
+    settled: &[(u32, Mono)],
+) -> Result<Option<(u32, Mono)>, UnifyError>
+    requires { IsGood pairs.now }
+    ensures goes { (es : Equations) → Keeps es pairs.now (work.old.items ++ Equation left right ∷ []) settled.now
+        → Goes es pairs.now work.new.items settled.now result }
+    ensures lighter { IfOk result (λ b. b ≡ None
+        → work_load pairs.now work.new.items < work_load pairs.now (work.old.items ++ Equation left right ∷ [])) }
+{
+    match left {
+        Mono::Var(variable) => meet(alloc, pairs, variable, right, work, settled),
+        Mono::Con(entity, arguments) => match right {
+            Mono::Var(variable) => {
+                meet(alloc, pairs, variable, Mono::Con(entity, arguments), work, settled)
+            }
+            Mono::Con(other, others) => split_constructor(entity, arguments, other, others, work),
+            Mono::Fun(from, to) => Err(UnifyError::Mismatch {
+                left: Mono::Con(entity, arguments),
+                right: Mono::Fun(from, to),
+            }),
+        },
+        Mono::Fun(from, to) => match right {
+            Mono::Var(variable) => {
+                meet(alloc, pairs, variable, Mono::Fun(from, to), work, settled)
+            }
+            Mono::Con(entity, arguments) => Err(UnifyError::Mismatch {
+                left: Mono::Fun(from, to),
+                right: Mono::Con(entity, arguments),
+            }),
+            Mono::Fun(other_from, other_to) => {
+                split_function(from, to, other_from, other_to, work).map_err(UnifyError::Memory)?;
+                Ok(None)
+            }
+        },
+    }
+}
+
+fn split_constructor(
+    entity: Entity,
+    arguments: Items<Mono>,
+    other: Entity,
+    others: Items<Mono>,
+    work: &mut Vec<Work>,
+) -> Result<Option<(u32, Mono)>, UnifyError>
+    ensures { Splits entity arguments other others work.old.items work.new.items result }
+{
+    if is_same_entity(&entity, &other) && arguments.len() == others.len() {
+        split_arguments(work, arguments, others).map_err(UnifyError::Memory)?;
+        return Ok(None);
+    }
+    Err(UnifyError::Mismatch {
+        left: Mono::Con(entity, arguments),
+        right: Mono::Con(other, others),
+    })
 }
 
 /// A variable against a type.
@@ -67,8 +137,13 @@ fn meet(
     variable: u32,
     other: Mono,
     work: &mut Vec<Work>,
-    settled: &mut Vec<(u32, Mono)>,
+    settled: &[(u32, Mono)],
 ) -> Result<Option<(u32, Mono)>, UnifyError>
+    requires { IsGood pairs.now }
+    ensures goes { (es : Equations) → Keeps es pairs.now (work.old.items ++ Equation (Var variable) other ∷ []) settled.now
+        → Goes es pairs.now work.new.items settled.now result }
+    ensures lighter { IfOk result (λ b. b ≡ None
+        → work_load pairs.now work.new.items < work_load pairs.now (work.old.items ++ Equation (Var variable) other ∷ [])) }
 {
     if is_variable(&other, variable) {
         return Ok(None);
@@ -101,6 +176,7 @@ fn open(
     work: &mut Vec<Work>,
     settled: &[(u32, Mono)],
 ) -> Result<(), AllocError>
+    ensures { OnOk result (Opens settled.now variable ty.now other work.old.items work.new.items) }
 {
     if is_settled(settled, variable, &other) {
         return Ok(());
@@ -115,8 +191,10 @@ fn is_settled(settled: &[(u32, Mono)], variable: u32, ty: &Mono) -> bool
     ensures { IsTrue result → IsOneOf (variable, ty.now) settled.now }
 {
     for (other, its) in settled {
-        if *other == variable && its.is_same(ty) {
-            return true;
+        if *other == variable {
+            if its.is_same(ty) {
+                return true;
+            }
         }
     }
     false
