@@ -1,5 +1,5 @@
 -- What is kept from step to step.
-use Rattle.std.proofs.Common.{◌≡◌, ◌⊎◌, ◌+◌, ◌<◌, ℕ, suc, List, [], ◌∷◌, ◌++◌, map, length, get_or, Option, Some, None, refl, sym, ap, ◌∙◌, subst, inl, inr, arith, append-nil, append_assoc}
+use Rattle.std.proofs.Common.{◌≡◌, ◌⊎◌, ◌+◌, ◌<◌, ℕ, suc, List, [], ◌∷◌, ◌++◌, map, length, get_or, Option, Some, None, Result, Ok, Err, IfOk, refl, sym, ap, ◌∙◌, subst, inl, inr, arith, append-nil, append_assoc}
 use Rattle.std.specs.List.{AllByRecursion as Each, concat}
 use Rattle.std.proofs.lemmas.List.{map-append, length_push}
 use Rattle.hr_base.specs.declared.bind.Entity.{Entity}
@@ -9,14 +9,17 @@ use Rattle.hr_type.specs.Types.{replaced, variables, first_for}
 use Rattle.hr_type.proofs.Terms.{value-var, value-con, value-fun}
 use Rattle.hr_unify.specs.declared.work.Work.{Work}
 use Rattle.hr_unify.specs.declared.work.Work.TheVariants.{Equation, Settled}
+use Rattle.hr_unify.specs.declared.solve.UnifyError.{UnifyError}
+use Rattle.hr_unify.specs.declared.solve.UnifyError.TheVariants.{Mismatch, Occurs, Memory}
 use Rattle.hr_unify.specs.Unifiers.{IsOneOf, Pairs, Equations, Unifies, halves, IsGood}
 use Rattle.hr_unify.specs.Refusals.{Related, chained, turned, argument, domain, range, Clashes, head_of, no_head, arrow_head, head}
 use Rattle.hr_unify.specs.Weights.{total, load, weight, item_load, work_load}
-use Rattle.hr_unify.specs.Working.{IsKnown, Follows, PairFollows, Equals, Waits, Keeps, names, Opens, paired, Binds, Goes}
+use Rattle.hr_unify.specs.Working.{IsKnown, Follows, PairFollows, Equals, Waits, Keeps, names, Opens, paired, Binds, Goes, Splits}
 use Rattle.hr_unify.proofs.Lists.{each_of, each_left, each_right, each_both, each_map, each_unmap, first_one}
 use Rattle.hr_unify.proofs.Values.{variables_con, variables_fun}
 use Rattle.hr_unify.proofs.Finding.{half_of}
-use Rattle.hr_unify.proofs.Loads.{load_var, load_con, load_fun, weight_bound, work_load-append}
+use Rattle.hr_unify.proofs.Loads.{lighter_dropped, lighter_opened, lighter_arguments, lighter_functions, lighter_settled}
+use Rattle.hr_unify.proofs.Relates.{head_con, head_fun}
 
 By : Type 0
 By = ℕ → Mono
@@ -186,3 +189,71 @@ paired_popped ts us ls rs l r work pushed whole long is_ts is_us e p =
     let short : length ls ≡ length rs = omega arith in
     (short, ap (λ w. w ++ paired ls rs) p ∙ append_assoc work (Equation l r ∷ []) (paired ls rs) ∙ ap (λ w. work ++ w) (sym (paired_last ls rs l r short))
       ∙ sym (ap (λ w. work ++ w) (λ i. paired (is_ts i) (is_us i))) ∙ e)
+
+-- the type of a variable in its place, or its equation dropped
+module _ (S : Pairs) (x : ℕ) (t o : Mono) (A new : List Work) (D : Pairs) (found : first_for x S ≡ Some t) where
+  pub opens_goes : Opens D x t o A new → (es : Equations) → Keeps es S (A ++ Equation (Var x) o ∷ []) D → Keeps es S new D
+  opens_goes (inl h) es k = subst (λ w. Keeps es S w D) (sym h.1) (keeps_settled es S A D x o h.0 k)
+  opens_goes (inr h) es k = subst (λ w. Keeps es S w D) (sym h) (keeps_opened es S A D x t o found k)
+
+  pub opens_lighter : IsGood S → Opens D x t o A new → work_load S new < work_load S (A ++ Equation (Var x) o ∷ [])
+  opens_lighter good (inl h) = subst (λ w. work_load S w < work_load S (A ++ Equation (Var x) o ∷ [])) (sym h.1) (lighter_dropped S good A x o)
+  opens_lighter good (inr h) = subst (λ w. work_load S w < work_load S (A ++ Equation (Var x) o ∷ [])) (sym h) (lighter_opened S good A x t o found)
+
+-- an equation by the types that the code finds
+pub keeps_named : (es : Equations) (S : Pairs) (A : List Work) (D : Pairs) (l m r n : Mono) → l ≡ m → r ≡ n → Keeps es S (A ++ Equation l r ∷ []) D → Keeps es S (A ++ Equation m n ∷ []) D
+keeps_named es S A D l m r n e f k = subst (λ (item : Work). Keeps es S (A ++ item ∷ []) D) (λ i. Equation (e i) (f i)) k
+
+pub load_named : (S : Pairs) (A : List Work) (l m r n : Mono) → l ≡ m → r ≡ n → work_load S (A ++ Equation m n ∷ []) ≡ work_load S (A ++ Equation l r ∷ [])
+load_named S A l m r n e f = ap (λ (item : Work). work_load S (A ++ item ∷ [])) (λ i. Equation (sym e i) (sym f i))
+
+con_no_head : (e : Entity) (ts : List Mono) → head_of (Con e ts) ≡ no_head → ⊥
+con_no_head e ts h = let k : head e (length ts) ≡ no_head = sym (head_con e ts) ∙ h in cc
+
+fun_no_head : (a b : Mono) → head_of (Fun a b) ≡ no_head → ⊥
+fun_no_head a b h = let k : arrow_head ≡ no_head = sym (head_fun a b) ∙ h in cc
+
+pub clash_con_fun : (es : Equations) (S : Pairs) (A : List Work) (D : Pairs) (e : Entity) (ts : List Mono) (a b : Mono) → Keeps es S (A ++ Equation (Con e ts) (Fun a b) ∷ []) D → Clashes es (Con e ts) (Fun a b)
+clash_con_fun es S A D e ts a b k =
+    keeps_clash es S A D (Con e ts) (Fun a b) (con_no_head e ts) (fun_no_head a b) (λ h. let q : head e (length ts) ≡ arrow_head = sym (head_con e ts) ∙ h ∙ head_fun a b in cc) k
+
+pub clash_fun_con : (es : Equations) (S : Pairs) (A : List Work) (D : Pairs) (e : Entity) (ts : List Mono) (a b : Mono) → Keeps es S (A ++ Equation (Fun a b) (Con e ts) ∷ []) D → Clashes es (Fun a b) (Con e ts)
+clash_fun_con es S A D e ts a b k =
+    keeps_clash es S A D (Fun a b) (Con e ts) (fun_no_head a b) (con_no_head e ts) (λ h. let q : head e (length ts) ≡ arrow_head = sym (head_con e ts) ∙ sym h ∙ head_fun a b in cc) k
+
+pub splits_goes : (S : Pairs) (A new : List Work) (D : Pairs) (e f : Entity) (ts us : List Mono) (r : Result (Option (ℕ × Mono)) UnifyError) → Splits e ts f us A new r
+    → (es : Equations) → Keeps es S (A ++ Equation (Con e ts) (Con f us) ∷ []) D → Goes es S new D r
+splits_goes S A new D e f ts us (Ok None) h es k =
+    subst (λ w. Keeps es S w D) (sym h.2) (keeps_arguments es S A D e ts us h.1 (subst (λ g. Keeps es S (A ++ Equation (Con e ts) (Con g us) ∷ []) D) (sym h.0) k))
+splits_goes S A new D e f ts us (Ok (Some b)) h es k = absurd h
+splits_goes S A new D e f ts us (Err (Mismatch l r)) h es k =
+    let shown = keeps_clash es S A D (Con e ts) (Con f us) (con_no_head e ts) (con_no_head f us) (λ q. h.2 (sym (head_con e ts) ∙ q ∙ head_con f us)) k in
+    subst (λ v. Clashes es v r) (sym h.0) (subst (λ v. Clashes es (Con e ts) v) (sym h.1) shown)
+splits_goes S A new D e f ts us (Err (Occurs x t)) h es k = absurd h
+splits_goes S A new D e f ts us (Err (Memory m)) h es k = tt
+
+pub splits_lighter : (S : Pairs) (A new : List Work) (e f : Entity) (ts us : List Mono) (r : Result (Option (ℕ × Mono)) UnifyError) → Splits e ts f us A new r
+    → IfOk r (λ b. b ≡ None → work_load S new < work_load S (A ++ Equation (Con e ts) (Con f us) ∷ []))
+splits_lighter S A new e f ts us (Ok None) h = λ _. subst (λ w. work_load S w < work_load S (A ++ Equation (Con e ts) (Con f us) ∷ [])) (sym h.2) (lighter_arguments S A e f ts us)
+splits_lighter S A new e f ts us (Ok (Some b)) h = absurd h
+splits_lighter S A new e f ts us (Err m) h = tt
+
+pub lighter_than : {E : Type 0} (r : Result (Option (ℕ × Mono)) E) (new m n : ℕ) → m ≡ n → IfOk r (λ b. b ≡ None → new < m) → IfOk r (λ b. b ≡ None → new < n)
+lighter_than r new m n e h = subst (λ k. IfOk r (λ b. b ≡ None → new < k)) e h
+
+pub functions_lighter : (S : Pairs) (A new : List Work) (l r a b c d : Mono) → l ≡ Fun a b → r ≡ Fun c d → new ≡ A ++ Equation b d ∷ Equation a c ∷ [] → work_load S new < work_load S (A ++ Equation l r ∷ [])
+functions_lighter S A new l r a b c d e f is =
+    let less = lighter_functions S A a b c d in
+    let lighter : work_load S new ≡ work_load S (A ++ Equation b d ∷ Equation a c ∷ []) = ap (work_load S) is in
+    let same : work_load S (A ++ Equation (Fun a b) (Fun c d) ∷ []) ≡ work_load S (A ++ Equation l r ∷ []) = load_named S A l (Fun a b) r (Fun c d) e f in
+    below _ _ _ _ lighter less same
+  where
+    below : (m n p q : ℕ) → m ≡ n → n < p → p ≡ q → m < q
+    below m n p q h k j = omega arith
+
+-- what waited is settled, in the step that finds it so
+pub settles_goes : (es : Equations) (S : Pairs) (A : List Work) (D new : Pairs) (item : Work) (x : ℕ) (o : Mono) → item ≡ Settled x o → new ≡ D ++ (x, o) ∷ [] → Keeps es S (A ++ item ∷ []) D → Keeps es S A new
+settles_goes es S A D new item x o e is k = subst (Keeps es S A) (sym is) (keeps_marked es S A D x o (subst (λ w. Keeps es S (A ++ w ∷ []) D) e k))
+
+pub settles_lighter : (S : Pairs) (A : List Work) (item : Work) (x : ℕ) (o : Mono) → item ≡ Settled x o → work_load S A < work_load S (A ++ item ∷ [])
+settles_lighter S A item x o e = subst (λ w. work_load S A < work_load S (A ++ w ∷ [])) (sym e) (lighter_settled S A x o)

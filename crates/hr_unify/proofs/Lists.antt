@@ -1,5 +1,5 @@
 -- Elements of lists, and the first pair of a variable.
-use Rattle.std.proofs.Common.{◌≡◌, ◌≢◌, ◌⊎◌, ℕ, Bool, true, false, cond, eqb, nat_eq, List, [], ◌∷◌, ◌++◌, map, Option, Some, None, refl, sym, ap, ◌∙◌, inl, inr, subst}
+use Rattle.std.proofs.Common.{◌≡◌, ◌≢◌, ◌⊎◌, ◌<◌, suc, zero, length, get_or, arith, ℕ, Bool, true, false, cond, eqb, nat_eq, List, [], ◌∷◌, ◌++◌, map, Option, Some, None, Result, Ok, Err, OnOk, is_ok, refl, sym, ap, ◌∙◌, inl, inr, subst}
 use Rattle.std.specs.List.{AllByRecursion as Each, IsDistinct, concat}
 use Rattle.std.proofs.lemmas.Bool.{eq-eqb, false≢true}
 use Rattle.std.proofs.lemmas.Bool.Decides.{eqb_tells}
@@ -120,3 +120,13 @@ none_made x p ps h e = elim (eqb_tells p.0 x) [ inl y ↦ absurd (h (sym y.1)) |
 pub distinct_none : (x : ℕ) (ps : Pairs) → Each (λ z. nat_eq x z ≡ false) (map (λ p. p.0) ps) → first_for x ps ≡ None
 distinct_none x [] h = refl
 distinct_none x (p ∷ ps) h = none_made x p ps (λ e. false≢true (sym h.0 ∙ eq-eqb x p.0 e)) (distinct_none x ps h.1)
+
+pub one_at : {X : Type 0} (xs : List X) (i : ℕ) (x : X) → i < length xs → x ≡ get_or xs i x → IsOneOf x xs
+one_at [] i x within is = absurd (omega arith)
+one_at (y ∷ xs) zero x within is = inl is
+one_at (y ∷ xs) (suc i) x within is = let k : i < length xs = omega arith in inr (one_at xs i x k is)
+
+-- what holds where a call is Ok, after its error was changed
+pub ok_part : {X Y E F : Type 0} (r : Result X E) (q : Result Y F) (y : Y) (P : Type 0) → is_ok q ≡ is_ok r → q ≡ Ok y → OnOk r P → P
+ok_part (Ok x) q y P e k h = h
+ok_part {Y = Y} {F = F} (Err m) q y P e k h = absurd (false≢true (sym e ∙ ap (is_ok {T = Y} {E = F}) k))

@@ -38,9 +38,10 @@ pub fn split_arguments(
     ensures { OnOk result (work.new.items ≡ work.old.items ++ paired lefts rights) }
 {
     while let Some(left) = lefts.pop() {
-        if let Some(right) = rights.pop() {
-            push(work, left, right)?;
-        }
+        let Some(right) = rights.pop() else {
+            return Ok(());
+        };
+        push(work, left, right)?;
     }
     Ok(())
 }

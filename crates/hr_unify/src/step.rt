@@ -28,8 +28,10 @@ pub fn next_binding(
     ensures done { IfOk result (λ b. b ≡ None → work.new.items ≡ []) }
 {
     while let Some(item) = work.pop() {
-        if let Some(binding) = step(alloc, pairs, item, work, settled)? {
-            return Ok(Some(binding));
+        match step(alloc, pairs, item, work, settled) {
+            Ok(None) => {}
+            Ok(Some(binding)) => return Ok(Some(binding)),
+            Err(error) => return Err(error),
         }
     }
     Ok(None)
