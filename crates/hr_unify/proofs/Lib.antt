@@ -6,4 +6,5 @@ pub mod Loads
 pub mod Meaning
 pub mod Relates
 pub mod Solving
+pub mod Unifying
 pub mod Values

@@ -1,5 +1,5 @@
 -- Elements of lists, and the first pair of a variable.
-use Rattle.std.proofs.Common.{◌≡◌, ◌≢◌, ◌⊎◌, ◌<◌, suc, zero, length, get_or, arith, ℕ, Bool, true, false, cond, eqb, nat_eq, List, [], ◌∷◌, ◌++◌, map, Option, Some, None, Result, Ok, Err, OnOk, is_ok, refl, sym, ap, ◌∙◌, inl, inr, subst}
+use Rattle.std.proofs.Common.{◌≡◌, ◌≢◌, ◌⊎◌, ◌<◌, suc, zero, length, get_or, arith, ℕ, Bool, true, false, cond, eqb, nat_eq, List, [], ◌∷◌, ◌++◌, map, Option, Some, None, Result, Ok, Err, OnOk, IfOk, MatchResult, is_ok, refl, sym, ap, ◌∙◌, inl, inr, subst}
 use Rattle.std.specs.List.{AllByRecursion as Each, IsDistinct, concat}
 use Rattle.std.proofs.lemmas.Bool.{eq-eqb, false≢true}
 use Rattle.std.proofs.lemmas.Bool.Decides.{eqb_tells}
@@ -130,3 +130,8 @@ one_at (y ∷ xs) (suc i) x within is = let k : i < length xs = omega arith in i
 pub ok_part : {X Y E F : Type 0} (r : Result X E) (q : Result Y F) (y : Y) (P : Type 0) → is_ok q ≡ is_ok r → q ≡ Ok y → OnOk r P → P
 ok_part (Ok x) q y P e k h = h
 ok_part {Y = Y} {F = F} (Err m) q y P e k h = absurd (false≢true (sym e ∙ ap (is_ok {T = Y} {E = F}) k))
+
+-- what holds of the value of a call that is Ok, after its error was changed
+pub ok_value : {X E F : Type 0} (r : Result X E) (q : Result X F) (x : X) (P : X → Type 0) (Q : E → Type 0) → MatchResult r (λ y. q ≡ Ok y) Q → is_ok q ≡ is_ok r → q ≡ Ok x → IfOk r P → P x
+ok_value {X = X} {F = F} (Ok y) q x P Q cases e k h = let both : ◌≡◌ {A = Result X F} (Ok y) (Ok x) = sym cases ∙ k in let equal : y ≡ x = cc in subst P equal h
+ok_value {X = X} {F = F} (Err m) q x P Q cases e k h = absurd (false≢true (sym e ∙ ap (is_ok {T = X} {E = F}) k))

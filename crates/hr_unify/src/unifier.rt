@@ -29,13 +29,18 @@ pub fn unify(
     let mut work = first_work(alloc, left, right).map_err(UnifyError::Memory)?;
     let mut settled = Vec::new(alloc);
     loop {
-        match next_binding(alloc, pairs.as_slice(), &mut work, &mut settled)? {
-            None => {
+        match next_binding(alloc, pairs.as_slice(), &mut work, &mut settled) {
+            Ok(None) => {
                 return Ok(Subst {
                     pairs: Seq { list: pairs },
                 });
             }
-            Some((variable, ty)) => bind(alloc, variable, ty, &mut pairs)?,
+            Ok(Some(binding)) => {
+                if let Err(error) = bind(alloc, binding, &mut pairs) {
+                    return Err(error);
+                }
+            }
+            Err(error) => return Err(error),
         }
     }
 }
@@ -61,22 +66,24 @@ fn first_work(alloc: Global, left: &Mono, right: &Mono) -> Result<Vec<Work>, All
 /// Adds a pair of a variable that has none, unless its type leads back to it.
 fn bind(
     alloc: Global,
-    variable: u32,
-    ty: Mono,
+    binding: (u32, Mono),
     pairs: &mut Vec<(u32, Mono)>,
 ) -> Result<(), UnifyError>
     requires good { IsGood pairs.old.items }
-    requires binds { Binds pairs.old.items variable ty }
-    ensures { Extends pairs.old.items variable ty pairs.new.items result }
+    requires binds { Binds pairs.old.items binding.0 binding.1 }
+    ensures { Extends pairs.old.items binding.0 binding.1 pairs.new.items result }
 {
-    check_occurs(alloc, pairs.as_slice(), variable, &ty)?;
-    push_pair(variable, ty, pairs).map_err(UnifyError::Memory)
+    if let Err(error) = check_occurs(alloc, pairs.as_slice(), binding.0, &binding.1) {
+        return Err(error);
+    }
+    push_pair(binding, pairs).map_err(UnifyError::Memory)?;
+    Ok(())
 }
 
-fn push_pair(variable: u32, ty: Mono, pairs: &mut Vec<(u32, Mono)>) -> Result<(), AllocError>
-    ensures { OnOk result (pairs.new.items ≡ pairs.old.items ++ (variable, ty) ∷ []) }
+fn push_pair(binding: (u32, Mono), pairs: &mut Vec<(u32, Mono)>) -> Result<(), AllocError>
+    ensures { OnOk result (pairs.new.items ≡ pairs.old.items ++ binding ∷ []) }
 {
-    pairs.push((variable, ty))?;
+    pairs.push(binding)?;
     Ok(())
 }
 
