@@ -1,5 +1,5 @@
 -- One more pair keeps a substitution good, where its variable has none and is reached from none of its type's.
-use Rattle.std.proofs.Common.{◌≡◌, ◌≢◌, ◌⊎◌, ℕ, nat_eq, true, false, eqb, List, [], ◌∷◌, ◌++◌, map, None, refl, sym, ap, ◌∙◌, subst, inl, inr}
+use Rattle.std.proofs.Common.{◌≡◌, ◌⊎◌, ℕ, nat_eq, false, eqb, [], ◌∷◌, ◌++◌, map, None, refl, sym, ap, subst, inl, inr}
 use Rattle.std.specs.List.{AllByRecursion as Each, IsDistinct}
 use Rattle.std.proofs.lemmas.Bool.Decides.{eqb_tells}
 use Rattle.hr_type.specs.declared.mono.Mono.{Mono}

@@ -1,6 +1,6 @@
 -- What the search for a variable answers, kind by kind.
-use Rattle.std.proofs.Common.{◌≡◌, ◌⊎◌, ◌≢◌, ◌==◌, ◌+◌, ◌<◌, ℕ, suc, zero, Bool, true, false, eqb, ◌||◌, List, [], ◌∷◌, ◌++◌, map, length, take, get_or, set, Option, Some, None, refl, sym, ap, ◌∙◌, subst, inl, inr, arith, append_assoc}
-use Rattle.std.specs.List.{AllByRecursion as Each, concat, list_any, IsDistinct}
+use Rattle.std.proofs.Common.{◌≡◌, ◌⊎◌, ◌≢◌, ◌==◌, ◌+◌, ◌<◌, ℕ, suc, zero, true, false, eqb, ◌||◌, List, [], ◌∷◌, ◌++◌, map, length, take, get_or, set, Option, Some, None, refl, sym, ap, ◌∙◌, subst, inl, inr, arith, append_assoc}
+use Rattle.std.specs.List.{AllByRecursion as Each, concat, list_any}
 use Rattle.std.proofs.lemmas.Bool.{false≢true}
 use Rattle.std.proofs.lemmas.Bool.Decides.{eqb_tells}
 use Rattle.std.proofs.lemmas.List.{take_more, map-append}
@@ -9,8 +9,8 @@ use Rattle.hr_type.specs.declared.mono.Mono.{Mono}
 use Rattle.hr_type.specs.declared.mono.Mono.TheVariants.{Var, Con, Fun}
 use Rattle.hr_type.specs.Types.{variables, first_for}
 use Rattle.hr_unify.specs.Unifiers.{IsOneOf, Pairs, halves, Reaches, at_once, through, IsGood}
-use Rattle.hr_unify.specs.Refusals.{Related, given, chained, applied, from, to, head_of, no_head, head}
-use Rattle.hr_unify.specs.Working.{Avoids, Finds, FindsAmong, Swaps}
+use Rattle.hr_unify.specs.Refusals.{Related, given, chained, applied, from, to, head}
+use Rattle.hr_unify.specs.Working.{Avoids, Finds, FindsAmong}
 use Rattle.hr_unify.proofs.Lists.{each_of, each_both, one_left, one_right, first_one, one_first, none_one}
 use Rattle.hr_unify.proofs.Values.{variables_var, variables_con, variables_fun}
 use Rattle.hr_unify.proofs.Relates.{head_var, head_con, head_fun}
@@ -93,10 +93,11 @@ module _ (ps : Pairs) (x : ℕ) where
   finds_neither a b seen later h k = (subst (Each (Avoids ps x)) (sym (variables_fun a b)) (each_both (Avoids ps x) (variables a) (variables b) h.0 k.0), k.1)
 
   pub finds_argument : (e : Entity) (ts us : List Mono) (seen : List ℕ) → FindsAmong ps x ts seen (Some us) → Finds ps x (Con e ts) seen (Some (Con e us))
-  finds_argument e ts us seen h =
-      (subst (λ vs. Related (halves ps) (Con e ts) (Con e vs)) (sym h.swapped) (applied e ts h.place h.ty h.within h.related),
-        subst (IsOneOf x) (sym (variables_con e us)) (subst (λ vs. IsOneOf x (concat (map variables vs))) (sym h.swapped) (one_in_set x ts h.place h.ty h.within h.inside)),
-        λ _. head_con e us ∙ ap (head e) (ap length h.swapped ∙ length-set_at ts h.place h.ty) ∙ sym (head_con e ts))
+  finds_argument e ts us seen h = (
+    subst (λ vs. Related (halves ps) (Con e ts) (Con e vs)) (sym h.swapped) (applied e ts h.place h.ty h.within h.related),
+    subst (IsOneOf x) (sym (variables_con e us)) (subst (λ vs. IsOneOf x (concat (map variables vs))) (sym h.swapped) (one_in_set x ts h.place h.ty h.within h.inside)),
+    λ _. head_con e us ∙ ap (head e) (ap length h.swapped ∙ length-set_at ts h.place h.ty) ∙ sym (head_con e ts),
+  )
 
   pub finds_no_argument : (e : Entity) (ts : List Mono) (seen : List ℕ) → FindsAmong ps x ts seen None → Finds ps x (Con e ts) seen None
   finds_no_argument e ts seen h = (subst (Each (Avoids ps x)) (sym (variables_con e ts)) h.0, h.1)
@@ -106,7 +107,7 @@ module _ (ps : Pairs) (x : ℕ) where
   among_more ts i t within is h k =
       let front : List Mono = take i ts in
       let whole : concat (map variables (take (i + 1) ts)) ≡ concat (map variables front) ++ (variables t ++ []) =
-        ap (λ us. concat (map variables us)) (take_more ts i t within ∙ ap (λ u. front ++ u ∷ []) (sym is)) ∙ ap concat (map-append variables front (t ∷ [])) ∙ concat-append (map variables front) (variables t ∷ []) in
+      ap (λ us. concat (map variables us)) (take_more ts i t within ∙ ap (λ u. front ++ u ∷ []) (sym is)) ∙ ap concat (map-append variables front (t ∷ [])) ∙ concat-append (map variables front) (variables t ∷ []) in
       subst (Each (Avoids ps x)) (sym whole) (each_both (Avoids ps x) (concat (map variables front)) (variables t ++ []) h (each_both (Avoids ps x) (variables t) [] k tt))
 
   -- the same at values that the code holds

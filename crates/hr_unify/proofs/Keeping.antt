@@ -1,21 +1,21 @@
 -- What is kept from step to step.
-use Rattle.std.proofs.Common.{◌≡◌, ◌⊎◌, ◌+◌, ◌<◌, ℕ, suc, List, [], ◌∷◌, ◌++◌, map, length, get_or, Option, Some, None, Result, Ok, Err, IfOk, refl, sym, ap, ◌∙◌, subst, inl, inr, arith, append-nil, append_assoc}
+use Rattle.std.proofs.Common.{◌≡◌, ◌+◌, ◌<◌, ℕ, suc, List, [], ◌∷◌, ◌++◌, map, length, get_or, Option, Some, None, Result, Ok, Err, IfOk, refl, sym, ap, ◌∙◌, subst, inl, inr, arith, append-nil, append_assoc}
 use Rattle.std.specs.List.{AllByRecursion as Each, concat}
-use Rattle.std.proofs.lemmas.List.{map-append, length_push}
+use Rattle.std.proofs.lemmas.List.{length_push}
 use Rattle.hr_base.specs.declared.bind.Entity.{Entity}
 use Rattle.hr_type.specs.declared.mono.Mono.{Mono}
 use Rattle.hr_type.specs.declared.mono.Mono.TheVariants.{Var, Con, Fun}
 use Rattle.hr_type.specs.Types.{replaced, variables, first_for}
-use Rattle.hr_type.proofs.Terms.{value-var, value-con, value-fun}
+use Rattle.hr_type.proofs.Terms.{value-con, value-fun}
 use Rattle.hr_unify.specs.declared.work.Work.{Work}
 use Rattle.hr_unify.specs.declared.work.Work.TheVariants.{Equation, Settled}
 use Rattle.hr_unify.specs.declared.solve.UnifyError.{UnifyError}
 use Rattle.hr_unify.specs.declared.solve.UnifyError.TheVariants.{Mismatch, Occurs, Memory}
 use Rattle.hr_unify.specs.Unifiers.{IsOneOf, Pairs, Equations, Unifies, halves, IsGood}
 use Rattle.hr_unify.specs.Refusals.{Related, chained, turned, argument, domain, range, Clashes, head_of, no_head, arrow_head, head}
-use Rattle.hr_unify.specs.Weights.{total, load, weight, item_load, work_load}
-use Rattle.hr_unify.specs.Working.{IsKnown, Follows, PairFollows, Equals, Waits, Keeps, names, Opens, paired, Binds, Goes, Splits}
-use Rattle.hr_unify.proofs.Lists.{each_of, each_left, each_right, each_both, each_map, each_unmap, first_one}
+use Rattle.hr_unify.specs.Weights.{work_load}
+use Rattle.hr_unify.specs.Working.{IsKnown, Follows, PairFollows, Equals, Waits, Keeps, names, Opens, paired, Goes, Splits}
+use Rattle.hr_unify.proofs.Lists.{each_of, each_left, each_right, each_both, first_one}
 use Rattle.hr_unify.proofs.Values.{variables_con, variables_fun}
 use Rattle.hr_unify.proofs.Finding.{half_of}
 use Rattle.hr_unify.proofs.Loads.{lighter_dropped, lighter_opened, lighter_arguments, lighter_functions, lighter_settled}
@@ -124,7 +124,7 @@ module _ (es : Equations) (S : Pairs) (A : List Work) (D : Pairs) where
   pub keeps_settled : (x : ℕ) (o : Mono) → IsOneOf {X = ℕ × Mono} (x, o) D → Keeps es S (A ++ Equation (Var x) o ∷ []) D → Keeps es S A D
   keeps_settled x o one k =
       keeps_none (keeps_top (Equation (Var x) o ∷ []) [] k
-        (λ by u e. (each_of (λ q. replaced by q.0 ≡ replaced by q.1) (halves D) (Var x, o) (k.repeats by u) (half_of x o D one), tt)) tt tt)
+      (λ by u e. (each_of (λ q. replaced by q.0 ≡ replaced by q.1) (halves D) (Var x, o) (k.repeats by u) (half_of x o D one), tt)) tt tt)
 
   pair_equal : (by : ℕ → Mono) (x : ℕ) (t : Mono) → first_for x S ≡ Some t → Unifies by (halves S) → replaced by (Var x) ≡ replaced by t
   pair_equal by x t found u = each_of (λ q. replaced by q.0 ≡ replaced by q.1) (halves S) (Var x, t) u (half_of x t S (first_one x t S found))
@@ -170,8 +170,8 @@ module _ (es : Equations) (S : Pairs) (A : List Work) (D : Pairs) where
       let f = top_follows (Equation (Var x) t) k in
       subst (λ w. Keeps es (S ++ (x, t) ∷ []) w D) (append-nil A)
       (keeps_change es S (S ++ (x, t) ∷ []) A (Equation (Var x) t ∷ []) [] D D k
-        (λ by u e. let v = unifies_split by S x t u in (v.0, (v.1, tt)))
-        (each_both (PairFollows es) S ((x, t) ∷ []) k.pairs_follow ((f.0, f.2), tt)) tt tt (λ by u. k.repeats by (unifies_split by S x t u).0))
+      (λ by u e. let v = unifies_split by S x t u in (v.0, (v.1, tt)))
+      (each_both (PairFollows es) S ((x, t) ∷ []) k.pairs_follow ((f.0, f.2), tt)) tt tt (λ by u. k.repeats by (unifies_split by S x t u).0))
 
 -- one more pair of arguments at the end comes first
 pub paired_last : (ts us : List Mono) (t u : Mono) → length ts ≡ length us → paired (ts ++ t ∷ []) (us ++ u ∷ []) ≡ Equation t u ∷ paired ts us
@@ -186,9 +186,11 @@ pub paired_popped : (ts us ls rs : List Mono) (l r : Mono) (work pushed whole : 
     → (length ls ≡ length rs) × (pushed ++ paired ls rs ≡ whole)
 paired_popped ts us ls rs l r work pushed whole long is_ts is_us e p =
     let k : length ls + 1 ≡ length rs + 1 = sym (length_push ls l) ∙ sym (ap length is_ts) ∙ long ∙ ap length is_us ∙ length_push rs r in
-    let short : length ls ≡ length rs = omega arith in
-    (short, ap (λ w. w ++ paired ls rs) p ∙ append_assoc work (Equation l r ∷ []) (paired ls rs) ∙ ap (λ w. work ++ w) (sym (paired_last ls rs l r short))
-      ∙ sym (ap (λ w. work ++ w) (λ i. paired (is_ts i) (is_us i))) ∙ e)
+    let short : length ls ≡ length rs = omega arith in (
+      short,
+      ap (λ w. w ++ paired ls rs) p ∙ append_assoc work (Equation l r ∷ []) (paired ls rs) ∙ ap (λ w. work ++ w) (sym (paired_last ls rs l r short))
+          ∙ sym (ap (λ w. work ++ w) (λ i. paired (is_ts i) (is_us i))) ∙ e,
+    )
 
 -- the type of a variable in its place, or its equation dropped
 module _ (S : Pairs) (x : ℕ) (t o : Mono) (A new : List Work) (D : Pairs) (found : first_for x S ≡ Some t) where

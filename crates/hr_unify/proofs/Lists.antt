@@ -1,6 +1,6 @@
 -- Elements of lists, and the first pair of a variable.
-use Rattle.std.proofs.Common.{◌≡◌, ◌≢◌, ◌⊎◌, ◌<◌, suc, zero, length, get_or, arith, ℕ, Bool, true, false, cond, eqb, nat_eq, List, [], ◌∷◌, ◌++◌, map, Option, Some, None, Result, Ok, Err, OnOk, IfOk, MatchResult, is_ok, refl, sym, ap, ◌∙◌, inl, inr, subst}
-use Rattle.std.specs.List.{AllByRecursion as Each, IsDistinct, concat}
+use Rattle.std.proofs.Common.{◌≡◌, ◌≢◌, ◌⊎◌, ◌<◌, suc, zero, length, get_or, arith, ℕ, Bool, true, false, cond, eqb, nat_eq, List, [], ◌∷◌, ◌++◌, map, Some, None, Result, Ok, Err, OnOk, IfOk, MatchResult, is_ok, refl, sym, ap, ◌∙◌, inl, inr, subst}
+use Rattle.std.specs.List.{AllByRecursion as Each, IsDistinct}
 use Rattle.std.proofs.lemmas.Bool.{eq-eqb, false≢true}
 use Rattle.std.proofs.lemmas.Bool.Decides.{eqb_tells}
 use Rattle.hr_type.specs.declared.mono.Mono.{Mono}

@@ -1,5 +1,5 @@
 -- Related types are equal under each unifier, so what a refusal shows leaves no unifier.
-use Rattle.std.proofs.Common.{◌≡◌, ◌⊎◌, ◌<◌, ◌≤◌, ◌+◌, ℕ, suc, zero, List, [], ◌∷◌, ◌++◌, map, length, get_or, set, refl, sym, ap, ◌∙◌, subst, inl, inr, arith}
+use Rattle.std.proofs.Common.{◌≡◌, ◌⊎◌, ◌<◌, ◌≤◌, ◌+◌, ℕ, suc, zero, List, [], ◌∷◌, map, length, get_or, set, refl, sym, ap, ◌∙◌, subst, inl, inr, arith}
 use Rattle.std.specs.List.{AllByRecursion as Each, concat}
 use Rattle.std.proofs.lemmas.List.{get_or-map, length-map}
 use Rattle.hr_base.specs.declared.bind.Entity.{Entity}
@@ -8,7 +8,7 @@ use Rattle.hr_type.specs.declared.mono.Mono.TheVariants.{Var, Con, Fun, outs-Var
 use Rattle.hr_type.specs.Types.{value, replaced, variables}
 use Rattle.hr_type.proofs.Terms.{every_type, value-var, value-con, value-fun, con-con, fun-fun}
 use Rattle.hr_unify.specs.Unifiers.{IsOneOf, Equations, Unifies}
-use Rattle.hr_unify.specs.Refusals.{Related, given, same, turned, chained, argument, domain, range, applied, from, to, Head, no_head, arrow_head, head, layer_head, head_of, Clashes, HoldsItself, HasNoUnifier}
+use Rattle.hr_unify.specs.Refusals.{Related, given, same, turned, chained, argument, domain, range, applied, from, to, no_head, arrow_head, head, layer_head, head_of, Clashes, HoldsItself, HasNoUnifier}
 use Rattle.hr_unify.specs.Weights.{total, mass}
 use Rattle.hr_unify.proofs.Lists.{each_of, one_cases}
 use Rattle.hr_unify.proofs.Values.{value_fuses, variables_var, variables_con, variables_fun}

@@ -1,6 +1,6 @@
 -- Values of variables that satisfy the equations which pairs state, in any algebra.
-use Rattle.std.proofs.Common.{◌≡◌, ◌≢◌, ◌⊎◌, ℕ, true, false, eqb, List, [], ◌∷◌, ◌++◌, map, None, refl, sym, ap, ◌∙◌, subst, inl, inr}
-use Rattle.std.specs.List.{AllByRecursion as Each, IsDistinct}
+use Rattle.std.proofs.Common.{◌≡◌, ◌≢◌, ◌⊎◌, ℕ, true, false, eqb, List, [], ◌∷◌, None, refl, sym, ap, ◌∙◌, subst, inl, inr}
+use Rattle.std.specs.List.{IsDistinct}
 use Rattle.std.proofs.lemmas.Bool.Decides.{eqb_tells}
 use Rattle.hr_base.specs.declared.bind.Entity.{Entity}
 use Rattle.hr_type.specs.declared.mono.Mono.{Mono}
@@ -32,6 +32,14 @@ pub path_more : (p : ℕ × Mono) (ps : Pairs) (x y : ℕ) → (y ≡ x) ⊎ Rea
 path_more p ps x y (inl e) = inl e
 path_more p ps x y (inr r) = inr (reach_more p ps x y r)
 
+no_edges : (x y : ℕ) → Reaches [] x y → ⊥
+no_edges x y (at_once _ _ t pair one) = pair
+no_edges x y (through _ u _ t pair one q) = pair
+
+pub good_none : (ps : Pairs) → ps ≡ [] → IsGood ps
+unfolding IsDistinct
+good_none ps e = subst IsGood (sym e) (record { distinct = tt; acyclic = λ x r. no_edges x x r })
+
 pub good_tail : (p : ℕ × Mono) (ps : Pairs) → IsGood (p ∷ ps) → IsGood ps
 unfolding IsDistinct
 good_tail p ps g = record { distinct = g.distinct.1; acyclic = λ x r. g.acyclic x (reach_more p ps x x r) }
@@ -58,16 +66,16 @@ module _ (A : Type 0) (applied : Entity → List A → A) (function : A → A �
   solve_agrees (p ∷ ps) f g y h =
       solve_agrees ps (update p.0 (step (value A applied function (solve ps f) p.1)) f) (update p.0 (step (value A applied function (solve ps g) p.1)) g) y
       (λ z path. by_test z path (eqb_tells z p.0) (λ u one reached.
-        solve_agrees ps f g u (λ v later. h v (inr (reached v (path_more p ps u v later))))))
+      solve_agrees ps f g u (λ v later. h v (inr (reached v (path_more p ps u v later))))))
     where
       by_test : (z : ℕ) → (z ≡ y) ⊎ Reaches ps y z → ((eqb z p.0 ≡ true) × (z ≡ p.0)) ⊎ ((eqb z p.0 ≡ false) × (z ≢ p.0))
           → ((u : ℕ) → IsOneOf u (variables p.1) → ((v : ℕ) → (v ≡ u) ⊎ Reaches (p ∷ ps) u v → Reaches (p ∷ ps) y v) → solve ps f u ≡ solve ps g u)
           → update p.0 (step (value A applied function (solve ps f) p.1)) f z ≡ update p.0 (step (value A applied function (solve ps g) p.1)) g z
       by_test z path (inl k) go =
           let same : value A applied function (solve ps f) p.1 ≡ value A applied function (solve ps g) p.1 =
-            value_agrees A applied function (solve ps f) (solve ps g) p.1
-            (each_from (λ u. solve ps f u ≡ solve ps g u) (variables p.1)
-              (λ u one. go u one (λ v later. path_then (p ∷ ps) y p.0 v (subst (λ q. (q ≡ y) ⊎ Reaches (p ∷ ps) y q) k.1 (path_more p ps y z path)) (edge_path (p ∷ ps) p.0 u v p.1 (inl refl) one later)))) in
+          value_agrees A applied function (solve ps f) (solve ps g) p.1
+          (each_from (λ u. solve ps f u ≡ solve ps g u) (variables p.1)
+          (λ u one. go u one (λ v later. path_then (p ∷ ps) y p.0 v (subst (λ q. (q ≡ y) ⊎ Reaches (p ∷ ps) y q) k.1 (path_more p ps y z path)) (edge_path (p ∷ ps) p.0 u v p.1 (inl refl) one later)))) in
           ap (update p.0 (step (value A applied function (solve ps f) p.1)) f) k.1 ∙ update_here p.0 (step (value A applied function (solve ps f) p.1)) f ∙ ap step same
           ∙ sym (update_here p.0 (step (value A applied function (solve ps g) p.1)) g) ∙ sym (ap (update p.0 (step (value A applied function (solve ps g) p.1)) g) k.1)
       by_test z path (inr k) go =
@@ -83,7 +91,7 @@ module _ (A : Type 0) (applied : Entity → List A → A) (function : A → A �
   same_below ps p given good =
       value_agrees A applied function (solve ps given) (solve ps (next ps p given)) p.1
       (each_from (λ u. solve ps given u ≡ solve ps (next ps p given) u) (variables p.1)
-        (λ u one. solve_agrees ps given (next ps p given) u (λ z path. sym (update_there p.0 z (step (value A applied function (solve ps given) p.1)) given (apart ps p good u z one path)))))
+      (λ u one. solve_agrees ps given (next ps p given) u (λ z path. sym (update_there p.0 z (step (value A applied function (solve ps given) p.1)) given (apart ps p good u z one path)))))
 
   bound_first : (ps : Pairs) (p : ℕ × Mono) (given : ℕ → A) → IsGood (p ∷ ps) → solve ps (next ps p given) p.0 ≡ step (value A applied function (solve ps (next ps p given)) p.1)
   bound_first ps p given good =

@@ -1,5 +1,5 @@
 -- From the problem to its solution: what is kept at the start, at each binding and at each answer.
-use Rattle.std.proofs.Common.{◌≡◌, ◌≢◌, ◌⊎◌, ◌<◌, ◌≤◌, ◌+◌, ℕ, Bool, true, false, cond, eqb, List, [], ◌∷◌, ◌++◌, map, length, get_or, Option, Some, None, is_some, Result, Ok, Err, refl, sym, ap, ◌∙◌, subst, inl, inr, arith}
+use Rattle.std.proofs.Common.{◌≡◌, ◌≢◌, ◌⊎◌, ◌<◌, ◌≤◌, ◌+◌, ℕ, Bool, true, false, cond, eqb, List, [], ◌∷◌, ◌++◌, length, get_or, Option, Some, None, is_some, Result, Ok, Err, refl, sym, ap, ◌∙◌, subst, inl, inr, arith}
 use Rattle.std.specs.List.{AllByRecursion as Each}
 use Rattle.std.proofs.lemmas.Bool.{eq-eqb}
 use Rattle.std.proofs.lemmas.Bool.Decides.{eqb_tells}
@@ -8,12 +8,12 @@ use Rattle.hr_type.specs.declared.mono.Mono.TheVariants.{Var, Con, Fun}
 use Rattle.hr_type.specs.Types.{replaced, variables, first_for}
 use Rattle.hr_type.proofs.Terms.{every_type}
 use Rattle.hr_unify.specs.declared.work.Work.{Work}
-use Rattle.hr_unify.specs.declared.work.Work.TheVariants.{Equation, Settled}
+use Rattle.hr_unify.specs.declared.work.Work.TheVariants.{Equation}
 use Rattle.hr_unify.specs.declared.solve.UnifyError.{UnifyError}
 use Rattle.hr_unify.specs.declared.solve.UnifyError.TheVariants.{Mismatch, Occurs, Memory}
-use Rattle.hr_unify.specs.Unifiers.{IsOneOf, Pairs, Equations, Unifies, halves, problem, IsGood, Solves}
+use Rattle.hr_unify.specs.Unifiers.{IsOneOf, Pairs, Equations, halves, problem, IsGood, Solves}
 use Rattle.hr_unify.specs.Refusals.{Related, given, same, turned, chained, argument, domain, range, applied, from, to, head_of, no_head, arrow_head, head, HoldsItself, Shows}
-use Rattle.hr_unify.specs.Working.{names, IsKnown, Follows, PairFollows, Equals, Keeps, Avoids, Binds, Goes, MayBind}
+use Rattle.hr_unify.specs.Working.{names, IsKnown, Follows, PairFollows, Keeps, Avoids, Binds, Goes, MayBind}
 use Rattle.hr_unify.proofs.Lists.{each_of, each_from, each_map, each_right, one_left, one_right}
 use Rattle.hr_unify.proofs.Values.{variables_var}
 use Rattle.hr_unify.proofs.Finding.{half_of, avoids_free}
@@ -25,10 +25,11 @@ use Rattle.hr_unify.proofs.Relates.{related_equal, clash_refuses, occurs_refuses
 -- the variables of both sides of an equation are among those of the equations
 known_given : (es : Equations) (l r : Mono) → IsOneOf {X = Mono × Mono} (l, r) es → IsKnown es l × IsKnown es r
 known_given [] l r one = absurd one
-known_given (e ∷ es) l r (inl q) =
-    (each_from (λ n. IsOneOf n (names (e ∷ es))) (variables l) (λ n one. one_left n (variables e.0) (variables e.1 ++ names es) (subst (λ t. IsOneOf n (variables t)) (ap (λ (p : Mono × Mono). p.0) q) one)),
-      each_from (λ n. IsOneOf n (names (e ∷ es))) (variables r) (λ n one. one_right n (variables e.0) (variables e.1 ++ names es)
-        (one_left n (variables e.1) (names es) (subst (λ t. IsOneOf n (variables t)) (ap (λ (p : Mono × Mono). p.1) q) one))))
+known_given (e ∷ es) l r (inl q) = (
+  each_from (λ n. IsOneOf n (names (e ∷ es))) (variables l) (λ n one. one_left n (variables e.0) (variables e.1 ++ names es) (subst (λ t. IsOneOf n (variables t)) (ap (λ (p : Mono × Mono). p.0) q) one)),
+  each_from (λ n. IsOneOf n (names (e ∷ es))) (variables r) (λ n one. one_right n (variables e.0) (variables e.1 ++ names es)
+      (one_left n (variables e.1) (names es) (subst (λ t. IsOneOf n (variables t)) (ap (λ (p : Mono × Mono). p.1) q) one))),
+)
 known_given (e ∷ es) l r (inr one) = (further l (known_given es l r one).0, further r (known_given es l r one).1)
   where
     further : (t : Mono) → IsKnown es t → IsKnown (e ∷ es) t
@@ -40,9 +41,9 @@ module _ (pairs : Pairs) (left right : Mono) where
   pub keeps_start : Keeps (problem pairs left right) pairs (Equation left right ∷ []) []
   keeps_start = record {
     pairs_follow = each_from (PairFollows (problem pairs left right)) pairs
-      (λ p one. (given (Var p.0) p.1 (inr (half_of p.0 p.1 pairs one)), (known_given (problem pairs left right) (Var p.0) p.1 (inr (half_of p.0 p.1 pairs one))).1));
+        (λ p one. (given (Var p.0) p.1 (inr (half_of p.0 p.1 pairs one)), (known_given (problem pairs left right) (Var p.0) p.1 (inr (half_of p.0 p.1 pairs one))).1));
     work_follows =
-      ((given left right (inl refl), (known_given (problem pairs left right) left right (inl refl)).0, (known_given (problem pairs left right) left right (inl refl)).1), tt);
+        ((given left right (inl refl), (known_given (problem pairs left right) left right (inl refl)).0, (known_given (problem pairs left right) left right (inl refl)).1), tt);
     sound = λ by u e. (e.0, u);
     waits = tt;
     repeats = λ by u. tt;
@@ -124,7 +125,7 @@ module _ (es : Equations) (ps : Pairs) where
   keeps_solves D good k =
       solves ps es good (λ by u. k.sound by u tt)
       (λ by u. each_map (λ e. replaced by e.0 ≡ replaced by e.1) (λ p. (Var p.0, p.1)) ps
-        (each_from (λ p. replaced by (Var p.0) ≡ replaced by p.1) ps (λ p one. related_equal es by u (Var p.0) p.1 (each_of (PairFollows es) ps p k.pairs_follow one).0)))
+      (each_from (λ p. replaced by (Var p.0) ≡ replaced by p.1) ps (λ p one. related_equal es by u (Var p.0) p.1 (each_of (PairFollows es) ps p k.pairs_follow one).0)))
 
   pub goes_shows : (work : List Work) (D : Pairs) (e : UnifyError) → Goes es ps work D (Err e) → Shows es e
   goes_shows work D (Mismatch l r) h = (h, clash_refuses es l r h)

@@ -1,14 +1,13 @@
 -- Values of types: they depend on the values of the variables alone, and a substitution first is the same as the
 -- values of what it puts in.
-use Rattle.std.proofs.Common.{◌≡◌, ℕ, List, [], ◌∷◌, ◌++◌, map, refl, sym, ap, ◌∙◌, subst, inl, inr}
+use Rattle.std.proofs.Common.{◌≡◌, ℕ, List, [], ◌∷◌, ◌++◌, map, refl, sym, ap, ◌∙◌, subst}
 use Rattle.std.specs.List.{AllByRecursion as Each, concat}
 use Rattle.hr_base.specs.declared.bind.Entity.{Entity}
 use Rattle.hr_type.specs.declared.mono.Mono.{Mono}
 use Rattle.hr_type.specs.declared.mono.Mono.TheVariants.{Var, Con, Fun}
 use Rattle.hr_type.specs.Types.{value, replaced, variables}
 use Rattle.hr_type.proofs.Terms.{every_type, value-var, value-con, value-fun}
-use Rattle.hr_unify.specs.Unifiers.{IsOneOf}
-use Rattle.hr_unify.proofs.Lists.{each_left, each_right, one_left, one_right}
+use Rattle.hr_unify.proofs.Lists.{each_left, each_right}
 
 pub variables_var : (n : ℕ) → variables (Var n) ≡ n ∷ []
 variables_var n = value-var _ _ _ _ n

@@ -1,6 +1,5 @@
 -- What a refusal shows: two types, or a variable and a type, that every unifier would have to make equal, and cannot.
 use Rattle.std.specs.Prelude.{◌≡◌, ◌<◌, ℕ, List, length, slice_index_or, slice_set}
-use Rattle.std.specs.declared.alloc.AllocError.{AllocError}
 use Rattle.hr_base.specs.declared.bind.Entity.{Entity}
 use Rattle.hr_type.specs.declared.mono.Mono.{Mono}
 use Rattle.hr_type.specs.declared.mono.Mono.TheVariants.{Var, Con, Fun}

@@ -1,4 +1,5 @@
 ghost use Rattle.std.specs.Prelude.{◌≡◌, []};
+ghost use Rattle.hr_unify.specs.Unifiers.{IsGood};
 
 use hr_base::Seq;
 use hr_type::Mono;
@@ -13,7 +14,8 @@ pub struct Subst {
 impl Subst {
     /// No pairs.
     pub fn new(alloc: Global) -> Subst
-        ensures { result.pairs ≡ [] }
+        ensures none { result.pairs ≡ [] }
+        ensures good { IsGood result.pairs }
     {
         Subst {
             pairs: Seq {

@@ -59,11 +59,7 @@ fn step(
     }
 }
 
-fn settle(
-    variable: u32,
-    ty: Mono,
-    settled: &mut Vec<(u32, Mono)>,
-) -> Result<(), AllocError>
+fn settle(variable: u32, ty: Mono, settled: &mut Vec<(u32, Mono)>) -> Result<(), AllocError>
     ensures { OnOk result (settled.new.items ≡ settled.old.items ++ (variable, ty) ∷ []) }
 {
     settled.push((variable, ty))?;
@@ -89,7 +85,14 @@ fn equate(
         Mono::Var(variable) => meet(alloc, pairs, variable, right, work, settled),
         Mono::Con(entity, arguments) => match right {
             Mono::Var(variable) => {
-                meet(alloc, pairs, variable, Mono::Con(entity, arguments), work, settled)
+                meet(
+                    alloc,
+                    pairs,
+                    variable,
+                    Mono::Con(entity, arguments),
+                    work,
+                    settled,
+                )
             }
             Mono::Con(other, others) => split_constructor(entity, arguments, other, others, work),
             Mono::Fun(from, to) => Err(UnifyError::Mismatch {
@@ -157,7 +160,9 @@ fn meet(
     match other {
         Mono::Var(second) => match look_up(pairs, second) {
             Some(ty) => {
-                open(alloc, second, ty, Mono::Var(variable), work, settled).map_err(UnifyError::Memory)?;
+                open(alloc, second, ty, Mono::Var(variable), work, settled).map_err(
+                    UnifyError::Memory,
+                )?;
                 Ok(None)
             }
             None => Ok(Some((variable, Mono::Var(second)))),

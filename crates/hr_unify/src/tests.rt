@@ -68,10 +68,7 @@ fn occurs(answer: Result<Subst, UnifyError>) -> bool {
 }
 
 /// Unifies equations one after another, from no pairs.
-fn solve_all(
-    alloc: Global,
-    equations: &[(Mono, Mono)],
-) -> Result<Subst, UnifyError>
+fn solve_all(alloc: Global, equations: &[(Mono, Mono)]) -> Result<Subst, UnifyError>
     ensures { IfOk result (λ found. IsGood found.pairs) }
 {
     let mut found = Subst::new(alloc);
@@ -117,7 +114,9 @@ fn earlier_pairs_count(rt: HostRuntime) -> Result<(), Fail> {
         (Mono::Var(2), list(alloc, int(alloc)?)?),
         (Mono::Var(0), Mono::Var(2)),
     ];
-    let found = solve_all(alloc, equations.as_slice()).ok().ok_or("refused")?;
+    let found = solve_all(alloc, equations.as_slice())
+        .ok()
+        .ok_or("refused")?;
     assert!(rt; mismatches(unify(alloc, &found, &Mono::Var(1), &char_type(alloc)?)));
     let expected = [
         (0, list(alloc, Mono::Var(1))?),
@@ -132,7 +131,9 @@ fn earlier_pairs_count(rt: HostRuntime) -> Result<(), Fail> {
 fn a_cycle_through_pairs_is_shown_whole(rt: HostRuntime) -> Result<(), Fail> {
     let alloc = rt.alloc();
     let equations = [(Mono::Var(0), list(alloc, Mono::Var(1))?)];
-    let found = solve_all(alloc, equations.as_slice()).ok().ok_or("refused")?;
+    let found = solve_all(alloc, equations.as_slice())
+        .ok()
+        .ok_or("refused")?;
     let step = fun(alloc, int(alloc)?, Mono::Var(0))?;
     let whole = fun(alloc, int(alloc)?, list(alloc, Mono::Var(1))?)?;
     match unify(alloc, &found, &Mono::Var(1), &step) {
@@ -144,19 +145,16 @@ fn a_cycle_through_pairs_is_shown_whole(rt: HostRuntime) -> Result<(), Fail> {
 
 /// Pairs by which the types of `first + 1` to `first + 30` double: a variable is a pair of the
 /// one before.
-fn doubling(
-    alloc: Global,
-    found: Subst,
-    first: u32,
-) -> Result<Subst, UnifyError>
+fn doubling(alloc: Global, found: Subst, first: u32) -> Result<Subst, UnifyError>
     requires good { IsGood found.pairs }
     requires small { first < 1000 }
     ensures { IfOk result (λ later. IsGood later.pairs) }
 {
     let mut found = found;
     for i in 0..30 {
-        let both = pair(alloc, Mono::Var(first + i), Mono::Var(first + i))
-            .map_err(UnifyError::Memory)?;
+        let both = pair(alloc, Mono::Var(first + i), Mono::Var(first + i)).map_err(
+            UnifyError::Memory,
+        )?;
         found = unify(alloc, &found, &Mono::Var(first + i + 1), &both)?;
     }
     Ok(found)
@@ -167,9 +165,13 @@ fn doubling_types_take_a_step_a_pair(rt: HostRuntime) -> Result<(), Fail> {
     let alloc = rt.alloc();
     let found = doubling(alloc, Subst::new(alloc), 0).ok().ok_or("refused")?;
     let found = doubling(alloc, found, 100).ok().ok_or("refused")?;
-    let found = unify(alloc, &found, &Mono::Var(30), &Mono::Var(130)).ok().ok_or("refused")?;
+    let found = unify(alloc, &found, &Mono::Var(30), &Mono::Var(130))
+        .ok()
+        .ok_or("refused")?;
     assert_eq!(rt; found.pairs.len(), 61);
-    let again = unify(alloc, &found, &Mono::Var(0), &Mono::Var(100)).ok().ok_or("refused")?;
+    let again = unify(alloc, &found, &Mono::Var(0), &Mono::Var(100))
+        .ok()
+        .ok_or("refused")?;
     assert_eq!(rt; again.pairs.len(), 61);
     assert!(rt; occurs(unify(alloc, &found, &Mono::Var(0), &Mono::Var(130))));
     Ok(())
@@ -262,7 +264,8 @@ fn has_variable(ty: &Mono, variable: u32) -> bool {
             }
             false
         }
-        Mono::Fun(from, to) => has_variable(from.get(), variable) || has_variable(to.get(), variable),
+        Mono::Fun(from, to) => has_variable(from.get(), variable)
+            || has_variable(to.get(), variable),
     }
 }
 

@@ -15,12 +15,7 @@ use std::alloc::{AllocError, Global};
 /// A most general unifier of two types that also makes the halves of each pair of `subst` equal.
 /// Pairs of the answer are not written out: a variable's type has the variables that the types
 /// had.
-pub fn unify(
-    alloc: Global,
-    subst: &Subst,
-    left: &Mono,
-    right: &Mono,
-) -> Result<Subst, UnifyError>
+pub fn unify(alloc: Global, subst: &Subst, left: &Mono, right: &Mono) -> Result<Subst, UnifyError>
     requires { IsGood subst.now.pairs }
     ensures solves { IfOk result (λ found. Solves found.pairs (problem subst.now.pairs left.now right.now)) }
     ensures refuses { IfErr result (Shows (problem subst.now.pairs left.now right.now)) }
@@ -64,11 +59,7 @@ fn first_work(alloc: Global, left: &Mono, right: &Mono) -> Result<Vec<Work>, All
 }
 
 /// Adds a pair of a variable that has none, unless its type leads back to it.
-fn bind(
-    alloc: Global,
-    binding: (u32, Mono),
-    pairs: &mut Vec<(u32, Mono)>,
-) -> Result<(), UnifyError>
+fn bind(alloc: Global, binding: (u32, Mono), pairs: &mut Vec<(u32, Mono)>) -> Result<(), UnifyError>
     requires good { IsGood pairs.old.items }
     requires binds { Binds pairs.old.items binding.0 binding.1 }
     ensures { Extends pairs.old.items binding.0 binding.1 pairs.new.items result }

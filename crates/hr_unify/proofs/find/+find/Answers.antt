@@ -1,10 +1,9 @@
-use Rattle.std.proofs.Common.{◌≡◌, ◌<◌, ◌==◌, ◌∙◌, List, [], length, Some, None, refl, sym, ap, subst, arith}
+use Rattle.std.proofs.Common.{◌≡◌, ◌<◌, ◌==◌, ◌∙◌, [], length, Some, None, refl, sym, ap, subst, arith}
 use Rattle.std.specs.List.{list_any}
 use Rattle.hr_unify.specs.Unifiers.{IsOneOf}
-use Rattle.hr_type.specs.declared.mono.Mono.{Mono}
-use Rattle.hr_type.specs.declared.mono.Mono.TheVariants.{Var, Con, Fun}
+use Rattle.hr_type.specs.declared.mono.Mono.TheVariants.{Var}
 use Rattle.hr_type.specs.Types.{first_for}
-use Rattle.hr_unify.specs.Working.{Finds, FindsAmong}
+use Rattle.hr_unify.specs.Working.{Finds}
 use Rattle.hr_unify.proofs.Finding as finding
 use Rattle.hr_unify.proofs.Loads as loads
 use Rattle.hr_unify.proofs.find.+find.Goals as goal
@@ -19,8 +18,10 @@ pub find-find-requires : goal.find-find-requires
 find-find-requires t c = (loads.falls_from c.args.pairs.now c.args.ty.now _ _ _ t c.in-Fun.is c.get.ensures c.decreases, (c.requires.good, c.requires.avoided))
 
 pub find-find-requires-in-Fun : goal.find-find-requires-in-Fun
-find-find-requires-in-Fun t c = (loads.falls_to c.args.pairs.now c.args.ty.now _ _ _ t c.in-Fun.is c.get-in-Fun.ensures c.decreases,
-    (c.requires.good, (finding.finds_as c.args.pairs.now c.args.variable _ _ _ _ _ c.get.ensures c.in_default.is c.in_ok-found-in-Fun.ensures).1))
+find-find-requires-in-Fun t c = (
+  loads.falls_to c.args.pairs.now c.args.ty.now _ _ _ t c.in-Fun.is c.get-in-Fun.ensures c.decreases,
+  (c.requires.good, (finding.finds_as c.args.pairs.now c.args.variable _ _ _ _ _ c.get.ensures c.in_default.is c.in_ok-found-in-Fun.ensures).1),
+)
 
 pub find-returns-in-Some-2 : goal.find-returns-in-Some-2
 find-returns-in-Some-2 t c =
@@ -47,7 +48,7 @@ find-returns-in-None-2 t c =
     c.in_ok-found-in-Fun.ensures c.in_ok-found-in-Fun-2.ensures
 
 pub find_among-find-requires : goal.find_among-find-requires
-find_among-find-requires t c = 
+find_among-find-requires t c =
     let within : c.loop-i.i < length c.args.types.now = omega arith in
     (loads.falls_at c.args.pairs.now c.args.types.now c.loop-i.i _ t within c.index-types-i.is c.decreases, (c.requires.good, c.loop-i.invariant.1))
 
@@ -65,7 +66,7 @@ find_variable-returns-then-other-variable t c =
 pub find_variable-returns-then-is_seen : goal.find_variable-returns-then-is_seen
 find_variable-returns-then-is_seen t c =
     let among : IsOneOf c.args.other c.args.seen.now.items =
-      finding.any_one c.args.other c.args.seen.now.items (sym (ap (list_any (λ x. x == c.args.other)) c.as_slice.ensures.value) ∙ sym c.is_seen.ensures ∙ c.if-is_seen.true) in
+    finding.any_one c.args.other c.args.seen.now.items (sym (ap (list_any (λ x. x == c.args.other)) c.as_slice.ensures.value) ∙ sym c.is_seen.ensures ∙ c.if-is_seen.true) in
     finding.finds_seen c.args.pairs.now c.args.variable c.args.other c.args.seen.now.items c.requires.avoided among
 
 pub find_variable-find-requires : goal.find_variable-find-requires

@@ -1,6 +1,5 @@
-use Rattle.std.proofs.Common.{◌≡◌, ◌∙◌, ◌++◌, ◌∷◌, [], ◌<◌, refl, sym, subst}
+use Rattle.std.proofs.Common.{◌∙◌, refl, sym, subst}
 use Rattle.hr_type.specs.declared.mono.Mono.TheVariants.{Var, Con, Fun}
-use Rattle.hr_unify.specs.Weights.{work_load}
 use Rattle.hr_unify.specs.Working.{Keeps}
 use Rattle.hr_unify.proofs.Lists.{ok_part}
 use Rattle.hr_unify.proofs.Loads.{turned_load}
@@ -19,7 +18,7 @@ pub returns-in-Var-right-clause-lighter : goal.returns-in-Var-right-clause-light
 returns-in-Var-right-clause-lighter c =
     lighter_than c.meet-in-Var-right.result _ _ _
     (turned_load c.args.pairs.now c.args.work.now.items (Var c.in-Var-right.variable) (Con c.in-Con.entity c.in-Con.arguments)
-      ∙ load_named c.args.pairs.now c.args.work.now.items c.args.left _ c.args.right _ c.in-Con.is c.in-Var-right.is)
+    ∙ load_named c.args.pairs.now c.args.work.now.items c.args.left _ c.args.right _ c.in-Con.is c.in-Var-right.is)
     c.meet-in-Var-right.ensures.lighter
 
 pub returns-in-Con-right-clause-goes : goal.returns-in-Con-right-clause-goes
@@ -45,7 +44,7 @@ pub returns-in-Var-right-2-clause-lighter : goal.returns-in-Var-right-2-clause-l
 returns-in-Var-right-2-clause-lighter c =
     lighter_than c.meet-in-Var-right-2.result _ _ _
     (turned_load c.args.pairs.now c.args.work.now.items (Var c.in-Var-right-2.variable) (Fun c.in-Fun.from c.in-Fun.to)
-      ∙ load_named c.args.pairs.now c.args.work.now.items c.args.left _ c.args.right _ c.in-Fun.is c.in-Var-right-2.is)
+    ∙ load_named c.args.pairs.now c.args.work.now.items c.args.left _ c.args.right _ c.in-Fun.is c.in-Var-right-2.is)
     c.meet-in-Var-right-2.ensures.lighter
 
 pub returns-in-Con-right-2-clause-goes : goal.returns-in-Con-right-2-clause-goes
@@ -56,7 +55,7 @@ pub returns-in_ok-map_err-in-Fun-right-2-clause-goes : goal.returns-in_ok-map_er
 returns-in_ok-map_err-in-Fun-right-2-clause-goes c = λ es k.
     subst (λ w. Keeps es c.args.pairs.now w c.args.settled.now) (sym (ok_part c.split_function.result c.map_err.result _ _ c.map_err.ensures.variant c.in_ok-map_err-in-Fun-right-2.was c.split_function.ensures))
     (keeps_functions es c.args.pairs.now c.args.work.now.items c.args.settled.now _ _ _ _
-      (keeps_named es c.args.pairs.now c.args.work.now.items c.args.settled.now _ _ _ _ c.in-Fun.is c.in-Fun-right-2.is k))
+    (keeps_named es c.args.pairs.now c.args.work.now.items c.args.settled.now _ _ _ _ c.in-Fun.is c.in-Fun-right-2.is k))
 
 pub returns-in_ok-map_err-in-Fun-right-2-clause-lighter : goal.returns-in_ok-map_err-in-Fun-right-2-clause-lighter
 returns-in_ok-map_err-in-Fun-right-2-clause-lighter c = λ _.

@@ -1,4 +1,4 @@
-use Rattle.std.proofs.Common.{◌≡◌, ◌∙◌, ◌++◌, ◌∷◌, [], ◌<◌, Some, sym, ap, subst}
+use Rattle.std.proofs.Common.{◌≡◌, ◌++◌, ◌∷◌, [], ◌<◌, Some, sym, subst}
 use Rattle.hr_type.specs.declared.mono.Mono.TheVariants.{Var}
 use Rattle.hr_type.specs.Types.{first_for}
 use Rattle.hr_unify.specs.declared.work.Work.TheVariants.{Equation}
@@ -33,7 +33,7 @@ returns-in_ok-map_err-in-Some-look_up-clause-goes c = λ es k.
     let work = c.args.work.now.items in
     let found : first_for c.in-Var.second c.args.pairs.now ≡ Some c.in-Some-look_up.ty.now = sym c.in-Some-look_up.ensures in
     let named : Keeps es c.args.pairs.now (work ++ Equation (Var c.args.variable) (Var c.in-Var.second) ∷ []) c.args.settled.now =
-      subst (λ o. Keeps es c.args.pairs.now (work ++ Equation (Var c.args.variable) o ∷ []) c.args.settled.now) c.in-Var.is k in
+    subst (λ o. Keeps es c.args.pairs.now (work ++ Equation (Var c.args.variable) o ∷ []) c.args.settled.now) c.in-Var.is k in
     opens_goes c.args.pairs.now c.in-Var.second c.in-Some-look_up.ty.now (Var c.args.variable) work _ c.args.settled.now found
     (ok_part c.open-in-Some-look_up.result c.map_err-in-Some-look_up.result _ _ c.map_err-in-Some-look_up.ensures.variant c.in_ok-map_err-in-Some-look_up.was c.open-in-Some-look_up.ensures)
     es (keeps_turned es c.args.pairs.now work c.args.settled.now (Var c.args.variable) (Var c.in-Var.second) named)
@@ -44,6 +44,6 @@ returns-in_ok-map_err-in-Some-look_up-clause-lighter c = λ _.
     let pairs = c.args.pairs.now in
     let found : first_for c.in-Var.second c.args.pairs.now ≡ Some c.in-Some-look_up.ty.now = sym c.in-Some-look_up.ensures in
     let less = opens_lighter pairs c.in-Var.second c.in-Some-look_up.ty.now (Var c.args.variable) work c.open-in-Some-look_up.new.work.items c.args.settled.now found c.requires
-      (ok_part c.open-in-Some-look_up.result c.map_err-in-Some-look_up.result _ _ c.map_err-in-Some-look_up.ensures.variant c.in_ok-map_err-in-Some-look_up.was c.open-in-Some-look_up.ensures) in
+    (ok_part c.open-in-Some-look_up.result c.map_err-in-Some-look_up.result _ _ c.map_err-in-Some-look_up.ensures.variant c.in_ok-map_err-in-Some-look_up.was c.open-in-Some-look_up.ensures) in
     subst (λ o. work_load pairs c.open-in-Some-look_up.new.work.items < work_load pairs (work ++ Equation (Var c.args.variable) o ∷ [])) (sym c.in-Var.is)
     (subst (λ n. work_load pairs c.open-in-Some-look_up.new.work.items < n) (turned_load pairs work (Var c.in-Var.second) (Var c.args.variable)) less)

@@ -16,8 +16,8 @@ returns-in-Ok-None-clause-solves c =
     let later = c.next_binding.new.work.items in
     let settled = c.next_binding.new.settled.items in
     let went = goes_as es c.loop-pairs.pairs.items later settled c.in-Ok-None.field-0 (None) c.in-Ok-None.field-0-is
-      (goes_at es c.as_slice-in-loop-pairs.result.now c.loop-pairs.pairs.items c.loop-pairs.work.items later c.loop-pairs.settled.items settled (Ok c.in-Ok-None.field-0) c.as_slice-in-loop-pairs.ensures.value
-        (c.in-Ok-None.ensures.goes es) c.loop-pairs.invariant.1) in
+    (goes_at es c.as_slice-in-loop-pairs.result.now c.loop-pairs.pairs.items c.loop-pairs.work.items later c.loop-pairs.settled.items settled (Ok c.in-Ok-None.field-0) c.as_slice-in-loop-pairs.ensures.value
+    (c.in-Ok-None.ensures.goes es) c.loop-pairs.invariant.1) in
     solved_at es c.loop-pairs.pairs.items later settled c.loop-pairs.invariant.0 (c.in-Ok-None.ensures.done c.in-Ok-None.field-0-is) went
 
 pub bind-requires-clause-binds : goal.bind-requires-clause-binds
@@ -26,8 +26,8 @@ bind-requires-clause-binds c =
     let later = c.next_binding.new.work.items in
     let settled = c.next_binding.new.settled.items in
     let went = goes_as es c.loop-pairs.pairs.items later settled c.in-Ok-Some.field-0 (Some c.in-Ok-Some.binding) c.in-Ok-Some.field-0-is
-      (goes_at es c.as_slice-in-loop-pairs.result.now c.loop-pairs.pairs.items c.loop-pairs.work.items later c.loop-pairs.settled.items settled (Ok c.in-Ok-Some.field-0) c.as_slice-in-loop-pairs.ensures.value
-        (c.in-Ok-Some.ensures.goes es) c.loop-pairs.invariant.1) in
+    (goes_at es c.as_slice-in-loop-pairs.result.now c.loop-pairs.pairs.items c.loop-pairs.work.items later c.loop-pairs.settled.items settled (Ok c.in-Ok-Some.field-0) c.as_slice-in-loop-pairs.ensures.value
+    (c.in-Ok-Some.ensures.goes es) c.loop-pairs.invariant.1) in
     went.1
 
 pub returns-in-Err-bind-clause-refuses : goal.returns-in-Err-bind-clause-refuses
@@ -36,8 +36,8 @@ returns-in-Err-bind-clause-refuses c =
     let later = c.next_binding.new.work.items in
     let settled = c.next_binding.new.settled.items in
     let went = goes_as es c.loop-pairs.pairs.items later settled c.in-Ok-Some.field-0 (Some c.in-Ok-Some.binding) c.in-Ok-Some.field-0-is
-      (goes_at es c.as_slice-in-loop-pairs.result.now c.loop-pairs.pairs.items c.loop-pairs.work.items later c.loop-pairs.settled.items settled (Ok c.in-Ok-Some.field-0) c.as_slice-in-loop-pairs.ensures.value
-        (c.in-Ok-Some.ensures.goes es) c.loop-pairs.invariant.1) in
+    (goes_at es c.as_slice-in-loop-pairs.result.now c.loop-pairs.pairs.items c.loop-pairs.work.items later c.loop-pairs.settled.items settled (Ok c.in-Ok-Some.field-0) c.as_slice-in-loop-pairs.ensures.value
+    (c.in-Ok-Some.ensures.goes es) c.loop-pairs.invariant.1) in
     bind_shows es c.loop-pairs.pairs.items later settled c.in-Ok-Some.binding.0 c.in-Ok-Some.binding.1 c.in-Err-bind.error went.0 c.in-Err-bind.ensures
 
 pub loop-pairs-smaller : goal.loop-pairs-smaller
@@ -46,8 +46,8 @@ loop-pairs-smaller c =
     let later = c.next_binding.new.work.items in
     let settled = c.next_binding.new.settled.items in
     let went = goes_as es c.loop-pairs.pairs.items later settled c.in-Ok-Some.field-0 (Some c.in-Ok-Some.binding) c.in-Ok-Some.field-0-is
-      (goes_at es c.as_slice-in-loop-pairs.result.now c.loop-pairs.pairs.items c.loop-pairs.work.items later c.loop-pairs.settled.items settled (Ok c.in-Ok-Some.field-0) c.as_slice-in-loop-pairs.ensures.value
-        (c.in-Ok-Some.ensures.goes es) c.loop-pairs.invariant.1) in
+    (goes_at es c.as_slice-in-loop-pairs.result.now c.loop-pairs.pairs.items c.loop-pairs.work.items later c.loop-pairs.settled.items settled (Ok c.in-Ok-Some.field-0) c.as_slice-in-loop-pairs.ensures.value
+    (c.in-Ok-Some.ensures.goes es) c.loop-pairs.invariant.1) in
     falls_at es c.loop-pairs.pairs.items c.bind.new.pairs.items later settled c.in-Ok-Some.binding c.in_default.ensures.0 went.0 went.1.free
 
 pub loop-pairs-preserved : goal.loop-pairs-preserved
@@ -56,8 +56,8 @@ loop-pairs-preserved c =
     let later = c.next_binding.new.work.items in
     let settled = c.next_binding.new.settled.items in
     let went = goes_as es c.loop-pairs.pairs.items later settled c.in-Ok-Some.field-0 (Some c.in-Ok-Some.binding) c.in-Ok-Some.field-0-is
-      (goes_at es c.as_slice-in-loop-pairs.result.now c.loop-pairs.pairs.items c.loop-pairs.work.items later c.loop-pairs.settled.items settled (Ok c.in-Ok-Some.field-0) c.as_slice-in-loop-pairs.ensures.value
-        (c.in-Ok-Some.ensures.goes es) c.loop-pairs.invariant.1) in
+    (goes_at es c.as_slice-in-loop-pairs.result.now c.loop-pairs.pairs.items c.loop-pairs.work.items later c.loop-pairs.settled.items settled (Ok c.in-Ok-Some.field-0) c.as_slice-in-loop-pairs.ensures.value
+    (c.in-Ok-Some.ensures.goes es) c.loop-pairs.invariant.1) in
     (c.in_default.ensures.1, bound_at es c.loop-pairs.pairs.items c.bind.new.pairs.items later settled c.in-Ok-Some.binding c.in_default.ensures.0 went.0)
 
 pub returns-in-Err-clause-refuses : goal.returns-in-Err-clause-refuses
@@ -67,4 +67,4 @@ returns-in-Err-clause-refuses c =
     let settled = c.next_binding.new.settled.items in
     goes_shows es c.loop-pairs.pairs.items later settled c.in-Err.error
     (goes_at es c.as_slice-in-loop-pairs.result.now c.loop-pairs.pairs.items c.loop-pairs.work.items later c.loop-pairs.settled.items settled (Err c.in-Err.error) c.as_slice-in-loop-pairs.ensures.value
-      (c.in-Err.ensures.goes es) c.loop-pairs.invariant.1)
+    (c.in-Err.ensures.goes es) c.loop-pairs.invariant.1)
