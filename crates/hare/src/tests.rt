@@ -1,9 +1,10 @@
 use crate::status::Status;
 use crate::work::refactor;
 use hr_base::Seq;
-use hr_shelf::{MemoryShelf, MemorySink};
+use hr_shelf::{FileShelf, MemoryShelf, MemorySink};
 use std::alloc::Global;
 use std::test::Fail;
+use std::{env, fs};
 
 const SUMS: &str = "f x = g x 1   -- sums\ng a b = h (a) b\nh a b = f a\n";
 
@@ -152,5 +153,24 @@ fn a_file_past_the_limit_is_refused(rt: HostRuntime) -> Result<(), Fail> {
     let status = refactor(rt.alloc(), words.as_slice(), &mut shelf, &mut out);
     assert_eq!(rt; status, Status::OverLimit);
     assert_eq!(rt; out.written(), b"over limit: Main.hs\n".as_slice());
+    Ok(())
+}
+
+#[test]
+fn a_real_file_is_renamed_in(rt: HostRuntime) -> Result<(), Fail> {
+    let folder = env::temp_dir(&rt)?.join(rt.alloc(), "hare_first_path")?;
+    let file = folder.join(rt.alloc(), "Main.hs")?.into_string();
+    let folder = folder.into_string();
+    fs::create_dir_all(&rt, folder.as_str())?;
+    fs::write(&rt, file.as_str(), SUMS)?;
+    let mut words = words_of(rt.alloc(), "rename Main 1:1 total in")?;
+    words.push(file.clone()?)?;
+    let mut shelf = FileShelf::new(rt.alloc(), &rt);
+    let mut out = MemorySink::new(rt.alloc(), 200, numbers(rt.alloc(), &[])?)?;
+    let status = refactor(rt.alloc(), words.as_slice(), &mut shelf, &mut out);
+    assert_eq!(rt; status, Status::Done);
+    let text = fs::read_to_string(&rt, file.as_str())?;
+    assert_eq!(rt; text.as_str(), TOTAL);
+    fs::remove_dir_all(&rt, folder.as_str())?;
     Ok(())
 }

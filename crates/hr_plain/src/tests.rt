@@ -127,3 +127,26 @@ fn texts_that_are_not_of_the_form(rt: HostRuntime) {
         assert!(rt; load(rt.alloc(), text.as_bytes()).is_ok(), "{text:?}");
     }
 }
+
+/// `f =`, then 1 in so many parentheses.
+fn nested(alloc: Global, depth: usize) -> Result<String, Fail> {
+    let mut text = String::from_str(alloc, "f = ")?;
+    for _ in 0..depth {
+        text.push('(')?;
+    }
+    text.push('1')?;
+    for _ in 0..depth {
+        text.push(')')?;
+    }
+    Ok(text)
+}
+
+#[test]
+fn nodes_nest_to_256(rt: HostRuntime) -> Result<(), Fail> {
+    for (depth, is_read) in [(253, true), (254, false), (100_000, false)] {
+        let text = nested(rt.alloc(), depth)?;
+        let answer = load(rt.alloc(), text.as_bytes());
+        assert_eq!(rt; answer.is_ok(), is_read, "{depth}");
+    }
+    Ok(())
+}
