@@ -67,6 +67,13 @@ fn occurs(answer: Result<Subst, UnifyError>) -> bool {
     matches!(answer, Err(UnifyError::Occurs { .. }))
 }
 
+fn shows_occurs(answer: &Result<Subst, UnifyError>, variable: u32, shown: &Mono) -> bool {
+    match answer {
+        Err(UnifyError::Occurs { var, ty }) => *var == variable && ty.is_same(shown),
+        _ => false,
+    }
+}
+
 /// Unifies equations one after another, from no pairs.
 fn solve_all(alloc: Global, equations: &[(Mono, Mono)]) -> Result<Subst, UnifyError>
     ensures { IfOk result (λ found. IsGood found.pairs) }
@@ -136,10 +143,8 @@ fn a_cycle_through_pairs_is_shown_whole(rt: HostRuntime) -> Result<(), Fail> {
         .ok_or("refused")?;
     let step = fun(alloc, int(alloc)?, Mono::Var(0))?;
     let whole = fun(alloc, int(alloc)?, list(alloc, Mono::Var(1))?)?;
-    match unify(alloc, &found, &Mono::Var(1), &step) {
-        Err(UnifyError::Occurs { var, ty }) => assert!(rt; var == 1 && ty.is_same(&whole)),
-        _ => assert!(rt; false),
-    }
+    let answer = unify(alloc, &found, &Mono::Var(1), &step);
+    assert!(rt; shows_occurs(&answer, 1, &whole));
     Ok(())
 }
 
@@ -177,24 +182,38 @@ fn doubling_types_take_a_step_a_pair(rt: HostRuntime) -> Result<(), Fail> {
     Ok(())
 }
 
+fn arrows(alloc: Global, count: u32, end: Mono) -> Result<Mono, AllocError> {
+    let mut ty = end;
+    for _ in 0..count {
+        ty = fun(alloc, char_type(alloc)?, ty)?;
+    }
+    Ok(ty)
+}
+
+fn lists(alloc: Global, count: u32, end: Mono) -> Result<Mono, AllocError> {
+    let mut ty = end;
+    for _ in 0..count {
+        ty = list(alloc, ty)?;
+    }
+    Ok(ty)
+}
+
 #[test]
-fn long_and_deep_types_are_unified(rt: HostRuntime) -> Result<(), Fail> {
+fn two_thousand_arrows_are_unified(rt: HostRuntime) -> Result<(), Fail> {
     let alloc = rt.alloc();
-    let mut arrows = int(alloc)?;
-    let mut other = Mono::Var(7);
-    for _ in 0..2000 {
-        arrows = fun(alloc, char_type(alloc)?, arrows)?;
-        other = fun(alloc, char_type(alloc)?, other)?;
-    }
-    let answer = unify(alloc, &Subst::new(alloc), &arrows, &other);
+    let known = arrows(alloc, 2000, int(alloc)?)?;
+    let open = arrows(alloc, 2000, Mono::Var(7))?;
+    let answer = unify(alloc, &Subst::new(alloc), &known, &open);
     assert!(rt; gives(answer, &[(7, int(alloc)?)]));
-    let mut lists = int(alloc)?;
-    let mut others = Mono::Var(7);
-    for _ in 0..500 {
-        lists = list(alloc, lists)?;
-        others = list(alloc, others)?;
-    }
-    let answer = unify(alloc, &Subst::new(alloc), &others, &lists);
+    Ok(())
+}
+
+#[test]
+fn five_hundred_nested_lists_are_unified(rt: HostRuntime) -> Result<(), Fail> {
+    let alloc = rt.alloc();
+    let known = lists(alloc, 500, int(alloc)?)?;
+    let open = lists(alloc, 500, Mono::Var(7))?;
+    let answer = unify(alloc, &Subst::new(alloc), &open, &known);
     assert!(rt; gives(answer, &[(7, int(alloc)?)]));
     Ok(())
 }
