@@ -1,0 +1,77 @@
+//! The order in which each node comes after those that it points to, the least first where several
+//! may come. Each node that may not come yet waits for one of its targets.
+use crate::rows::{append, empty_rows, successors};
+use hr_base::Seq;
+use std::alloc::{AllocError, Global};
+use std::collections::BTreeSet;
+use std::mem;
+
+#[derive(Drop)]
+pub(crate) struct Agenda {
+    /// Of the targets of each node, those that were not seen to be done.
+    left: Vec<Seq<usize>>,
+    /// For each node those that wait for it.
+    waiting: Vec<Seq<usize>>,
+    done: Vec<bool>,
+    ready: BTreeSet<usize>,
+}
+
+impl Agenda {
+    fn new(alloc: Global, nodes: usize, edges: &[(usize, usize)]) -> Result<Agenda, AllocError> {
+        Ok(Agenda {
+            left: successors(alloc, nodes, edges)?,
+            waiting: empty_rows(alloc, nodes)?,
+            done: vec![in alloc; false; nodes]?,
+            ready: BTreeSet::new(alloc),
+        })
+    }
+
+    /// Makes a node ready, or lets it wait for a target that isn't done.
+    fn settle(&mut self, node: usize) -> Result<(), AllocError> {
+        match last_needed(&mut self.left[node], self.done.as_slice()) {
+            Some(target) => append(&mut self.waiting[target], node),
+            None => {
+                self.ready.insert(node)?;
+                Ok(())
+            }
+        }
+    }
+}
+
+/// The last target that isn't done. Those behind it are dropped.
+fn last_needed(row: &mut Seq<usize>, done: &[bool]) -> Option<usize> {
+    while let Some(target) = row.list.last().copied() {
+        if !done[target] {
+            return Some(target);
+        }
+        row.list.pop();
+    }
+    None
+}
+
+/// The nodes that can be put in order, in that order.
+pub(crate) fn first_ready(
+    alloc: Global,
+    nodes: usize,
+    edges: &[(usize, usize)],
+) -> Result<Vec<usize>, AllocError> {
+    let mut agenda = Agenda::new(alloc, nodes, edges)?;
+    for node in 0..nodes {
+        agenda.settle(node)?;
+    }
+    let mut order = Vec::new(alloc);
+    while let Some(node) = agenda.ready.pop_first() {
+        order.push(node)?;
+        agenda.done[node] = true;
+        let released = mem::replace(
+            &mut agenda.waiting[node],
+            Seq {
+                list: Vec::new(alloc),
+            },
+        );
+        for waiter in released.as_slice() {
+            agenda.settle(*waiter)?;
+        }
+    }
+    Ok(order)
+}
