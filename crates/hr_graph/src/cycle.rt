@@ -1,4 +1,4 @@
-use crate::distances::distances;
+use crate::levels::distances;
 use crate::rows::successors;
 use crate::strong::labels;
 use std::alloc::{AllocError, Global};

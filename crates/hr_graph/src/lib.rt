@@ -2,16 +2,16 @@
 //! definitions form one group.
 #![tactic(auto)]
 
-mod components;
 mod cycle;
-mod distances;
+mod groups;
+mod levels;
 mod module_names;
 mod module_order;
 mod ready;
 mod rows;
 mod strong;
 
-pub use components::components;
+pub use groups::components;
 pub use module_order::{GraphError, ImportEdge, order};
 
 #[cfg(test)]
