@@ -1,2 +1,4 @@
 pub mod Members
 pub mod RowLemmas
+pub mod StrongSteps
+pub mod ShutSteps

@@ -22,6 +22,6 @@ contains_kept xs x y h = Contains-append_left xs (x ∷ []) y h
 pub at_set : {X : Type 0} (P : ℕ → X → Type 0) (xs : List X) (u : ℕ) (new d : X) → u < length xs → P u new → ((a : ℕ) → (a ≡ u → ⊥) → P a (get_or xs a d)) → (a : ℕ) → P a (get_or (set xs u new) a d)
 at_set P xs u new d within here other a =
     elim (cases_eq a u) [
-      inl e ↦ subst (λ b. P b (get_or (set xs u new) b d)) (sym e) (subst (λ x. P u x) (sym (get_or-set_same xs u new d within)) here)
-    | inr ne ↦ subst (λ x. P a x) (sym (get_or-set_other xs u a new d ne)) (other a ne)
+      | inl e ↦ subst (λ b. P b (get_or (set xs u new) b d)) (sym e) (subst (λ x. P u x) (sym (get_or-set_same xs u new d within)) here)
+      | inr ne ↦ subst (λ x. P a x) (sym (get_or-set_other xs u a new d ne)) (other a ne)
     ]

@@ -1,2 +1,3 @@
 pub mod Graph
 pub mod Rows
+pub mod Strong

@@ -1,6 +1,10 @@
 //! Strong components by the path of components: the open nodes form a path of groups, in which each
 //! group's nodes reach each other and each group reaches the next. An edge back into the path joins
 //! the groups from there on; a group with no edge left is a component, and is closed.
+ghost use Rattle.std.specs.Prelude.{◌≡◌, ◌+◌, ◌<◌, ◌≤◌, ◌++◌, ◌∷◌, ◌↔◌, ℕ, [], length, take, set, map, IfNone, IfSome, IfOk, OnOk, IsTrue, Contains, slice_index_or, vec_len};
+ghost use Rattle.hr_graph.specs.Graph.{IsWithin};
+ghost use Rattle.hr_graph.specs.Strong.{IsPath, IsSound, Follows, Joined, AreEarly, HasTargets, closing, mark_of, waiting, work};
+
 use crate::rows::successors;
 use hr_base::Seq;
 use std::alloc::{AllocError, Global};
@@ -27,6 +31,56 @@ pub(crate) struct Search {
     closed: usize,
 }
 
+/// Puts off the edges of the node at this place.
+fn wait(pending: &mut Vec<(usize, usize)>, place: usize, row: &[usize]) -> Result<(), AllocError>
+    ensures { OnOk result (pending.new.items ≡ pending.old.items ++ waiting place row.now) }
+{
+    for target in row {
+        pending.push((place, *target))?;
+    }
+    Ok(())
+}
+
+/// The target of an edge of the last group, which begins at this place, that is still to be
+/// followed.
+fn next_target(pending: &mut Vec<(usize, usize)>, start: usize) -> Option<usize>
+    ensures none { IfNone result ((pending.new.items ≡ pending.old.items) × AreEarly pending.old.items start) }
+    ensures some { IfSome result (λ target. (place : ℕ) × (start ≤ place) × (pending.old.items ≡ pending.new.items ++ (place, target) ∷ [])) }
+{
+    let (place, target) = pending.last().copied()?;
+    if place < start {
+        return None;
+    }
+    pending.pop();
+    Some(target)
+}
+
+/// Joins the groups behind the one that has this place with it.
+fn join(starts: &mut Vec<usize>, place: usize)
+    ensures { Joined starts.old.items starts.new.items place }
+{
+    while let Some(start) = starts.last().copied() {
+        if start <= place {
+            return;
+        }
+        starts.pop();
+    }
+}
+
+/// Closes the nodes of the path from this place on.
+fn shut(marks: &mut Vec<Mark>, path: &mut Vec<usize>, start: usize, label: usize)
+    requires { IsPath marks.old.items path.old.items }
+    ensures marks { (v : ℕ) → mark_of marks.new.items v ≡ closing label start (mark_of marks.old.items v) }
+    ensures length { vec_len marks.new ≡ vec_len marks.old }
+    ensures path { path.new.items ≡ take start path.old.items }
+{
+    while path.len() > start {
+        if let Some(node) = path.pop() {
+            marks[node] = Mark::Closed(label);
+        }
+    }
+}
+
 impl Search {
     fn new(alloc: Global, nodes: usize) -> Result<Search, AllocError> {
         Ok(Search {
@@ -39,54 +93,32 @@ impl Search {
     }
 
     /// Puts a node at the end of the path, as a group of its own.
-    fn enter(&mut self, node: usize, row: &[usize]) -> Result<(), AllocError> {
+    fn enter(&mut self, node: usize, row: &[usize]) -> Result<(), AllocError>
+        requires { node < vec_len self.old.marks }
+        ensures marks { OnOk result (self.new.marks.items ≡ set self.old.marks.items node (Mark.Open (length self.old.path.items))) }
+        ensures path { OnOk result (self.new.path.items ≡ self.old.path.items ++ node ∷ []) }
+        ensures starts { OnOk result (self.new.starts.items ≡ self.old.starts.items ++ length self.old.path.items ∷ []) }
+        ensures pending { OnOk result (self.new.pending.items ≡ self.old.pending.items ++ waiting (length self.old.path.items) row.now) }
+        ensures closed { self.new.closed ≡ self.old.closed }
+    {
         let place = self.path.len();
         self.path.push(node)?;
         self.starts.push(place)?;
         self.marks[node] = Mark::Open(place);
-        for target in row {
-            self.pending.push((place, *target))?;
-        }
-        Ok(())
-    }
-
-    /// Joins the groups behind the one that has this place with it.
-    fn join(&mut self, place: usize) {
-        while let Some(start) = self.starts.last().copied() {
-            if start <= place {
-                return;
-            }
-            self.starts.pop();
-        }
-    }
-
-    /// Closes the last group, which begins at this place.
-    fn close(&mut self, start: usize) {
-        self.starts.pop();
-        while self.path.len() > start {
-            if let Some(node) = self.path.pop() {
-                self.marks[node] = Mark::Closed(self.closed);
-            }
-        }
-        self.closed += 1;
-    }
-
-    /// The target of an edge of the last group that is still to be followed.
-    fn next_target(&mut self, start: usize) -> Option<usize> {
-        let (place, target) = self.pending.last().copied()?;
-        if place < start {
-            return None;
-        }
-        self.pending.pop();
-        Some(target)
+        wait(&mut self.pending, place, row)
     }
 
     /// Follows an edge of the last group.
-    fn follow(&mut self, rows: &[Seq<usize>], target: usize) -> Result<(), AllocError> {
+    fn follow(&mut self, rows: &[Seq<usize>], target: usize) -> Result<(), AllocError>
+        requires follows { Follows rows.now self.old.marks.items self.old.path.items self.old.starts.items self.old.pending.items self.old.closed target }
+        requires within { target < length rows.now }
+        ensures sound { OnOk result (IsSound rows.now self.new.marks.items self.new.path.items self.new.starts.items self.new.pending.items self.new.closed) }
+        ensures less { OnOk result (work rows.now self.new.marks.items self.new.starts.items self.new.pending.items ≤ work rows.now self.old.marks.items self.old.starts.items self.old.pending.items) }
+    {
         match self.marks[target] {
             Mark::Unseen => self.enter(target, rows[target].as_slice()),
             Mark::Open(place) => {
-                self.join(place);
+                join(&mut self.starts, place);
                 Ok(())
             }
             Mark::Closed(_) => Ok(()),
@@ -94,11 +126,20 @@ impl Search {
     }
 
     /// Goes on until the path is empty.
-    fn explore(&mut self, rows: &[Seq<usize>]) -> Result<(), AllocError> {
+    fn explore(&mut self, rows: &[Seq<usize>]) -> Result<(), AllocError>
+        requires sound { IsSound rows.now self.old.marks.items self.old.path.items self.old.starts.items self.old.pending.items self.old.closed }
+        requires targets { HasTargets rows.now }
+        ensures sound { OnOk result (IsSound rows.now self.new.marks.items self.new.path.items self.new.starts.items self.new.pending.items self.new.closed) }
+        ensures empty { OnOk result (self.new.starts.items ≡ []) }
+    {
         while let Some(start) = self.starts.last().copied() {
-            match self.next_target(start) {
+            match next_target(&mut self.pending, start) {
                 Some(target) => self.follow(rows, target)?,
-                None => self.close(start),
+                None => {
+                    self.starts.pop();
+                    shut(&mut self.marks, &mut self.path, start, self.closed);
+                    self.closed += 1;
+                }
             }
         }
         Ok(())

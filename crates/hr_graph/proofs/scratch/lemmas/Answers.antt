@@ -1,0 +1,6 @@
+use Rattle.std.proofs.Common.{refl}
+use Rattle.hr_graph.proofs.StrongSteps.{way_on}
+use Rattle.hr_graph.proofs.scratch.lemmas.Goals as goal
+
+pub returns : goal.returns
+returns c = refl
