@@ -2,3 +2,4 @@ pub mod Members
 pub mod RowLemmas
 pub mod StrongSteps
 pub mod ShutSteps
+pub mod FollowSteps

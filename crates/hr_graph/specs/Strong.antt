@@ -99,13 +99,21 @@ weigh (w ∷ ws) (Unseen ∷ marks) = w + weigh ws marks
 weigh (w ∷ ws) (Open p ∷ marks) = weigh ws marks
 weigh (w ∷ ws) (Closed label ∷ marks) = weigh ws marks
 
+-- one for each node
+abbrev pub ones : List (List ℕ) → List ℕ
+ones rows = map (λ row. 1) rows
+
+-- the edges of each node, and two for entering and closing it
+abbrev pub loads : List (List ℕ) → List ℕ
+loads rows = map (λ row. length row + 2) rows
+
 -- there is a number for each component that is still to be closed
 abbrev pub HasRoom : List (List ℕ) → List Mark → List ℕ → ℕ → Type 0
-HasRoom rows marks starts closed = closed + length starts + weigh (map (λ row. 1) rows) marks ≤ length rows
+HasRoom rows marks starts closed = closed + length starts + weigh (ones rows) marks ≤ length rows
 
 -- what is left to do
 abbrev pub work : List (List ℕ) → List Mark → List ℕ → List (ℕ × ℕ) → ℕ
-work rows marks starts pending = weigh (map (λ row. length row + 2) rows) marks + length pending + length starts
+work rows marks starts pending = weigh (loads rows) marks + length pending + length starts
 
 -- the targets are nodes
 abbrev pub HasTargets : List (List ℕ) → Type 0

@@ -116,7 +116,10 @@ impl Search {
         ensures less { OnOk result (work rows.now self.new.marks.items self.new.starts.items self.new.pending.items ≤ work rows.now self.old.marks.items self.old.starts.items self.old.pending.items) }
     {
         match self.marks[target] {
-            Mark::Unseen => self.enter(target, rows[target].as_slice()),
+            Mark::Unseen => {
+                self.enter(target, rows[target].as_slice())?;
+                Ok(())
+            }
             Mark::Open(place) => {
                 join(&mut self.starts, place);
                 Ok(())
