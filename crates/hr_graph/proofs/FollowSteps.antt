@@ -6,7 +6,7 @@ use Rattle.std.proofs.lemmas.List.{length_push, length-append, length-map, lengt
 use Rattle.std.proofs.lemmas.List.Elements.{Contains-push}
 use Rattle.hr_graph.specs.declared.strong.Mark.{Mark}
 use Rattle.hr_graph.specs.declared.strong.Mark.TheVariants.{Unseen, Open, Closed}
-use Rattle.hr_graph.specs.Strong.{IsTarget, Way, stay, go, mark_of, IsSearch, IsSearchBut, IsSound, Follows, Joined, AreEarly, HasTargets, HasRoom, closing, waiting, weigh, work, ones, loads}
+use Rattle.hr_graph.specs.Strong.{IsTarget, Way, stay, go, mark_of, IsSearch, IsSearchBut, IsSound, Follows, Joined, AreEarly, HasTargets, HasRoom, closing, waiting, weigh, work, ones, loads, IsSeen}
 use Rattle.hr_graph.proofs.Members.{contains_more}
 use Rattle.hr_graph.proofs.StrongSteps.{way_on, entered, passed, joined, popped, shut, pairs_front, pairs_last}
 
@@ -14,7 +14,7 @@ pub sound_same : {rows : List (List ℕ)} (marks m : List Mark) (path p starts s
     → m ≡ marks → p ≡ path → s ≡ starts → w ≡ pending → c ≡ closed → IsSound rows marks path starts pending closed → IsSound rows m p s w c
 sound_same {rows} marks m path p starts s pending w closed c em ep es ew ec sound =
     subst (λ m. IsSound rows m p s w c) (sym em) (subst (λ p. IsSound rows marks p s w c) (sym ep) (subst (λ s. IsSound rows marks path s w c) (sym es)
-      (subst (λ w. IsSound rows marks path starts w c) (sym ew) (subst (λ c. IsSound rows marks path starts pending c) (sym ec) sound))))
+    (subst (λ w. IsSound rows marks path starts w c) (sym ew) (subst (λ c. IsSound rows marks path starts pending c) (sym ec) sound))))
 
 -- ---- weights
 
@@ -57,7 +57,7 @@ pub pairs_take : {X : Type 0} (R : X → X → Type 0) (n : ℕ) (xs : List X) �
 pairs_take R n xs pairs i j d lt within =
     let lj : j < min n (length xs) = omega (arith, within, length-take n xs) in
     subst (λ x. R x (get_or (take n xs) j d)) (sym (get_or-take n xs i d (omega arith)))
-      (subst (λ y. R (get_or xs i d) y) (sym (get_or-take n xs j d (omega arith))) (pairs i j d lt (omega arith)))
+    (subst (λ y. R (get_or xs i d) y) (sym (get_or-take n xs j d (omega arith))) (pairs i j d lt (omega arith)))
 
 pub joined_sub : (before after : List ℕ) (place : ℕ) → Joined before after place → (s : ℕ) → Contains after s → Contains before s
 joined_sub before after place j s in' = contains_take (length after) before s (subst (λ xs. Contains xs s) j.front in')
@@ -70,15 +70,15 @@ joined_small before after place j rise s (k, within, is) =
     let last : get_or after (length after - 1) 0 ≤ place = j.last (length after - 1) (omega arith) in
     let at : get_or after k 0 ≡ s = get_or_default after k 0 s within ∙ is in
     elim (cases_lt k (length after - 1)) [
-      inl lt ↦ let below : get_or after k 0 < get_or after (length after - 1) 0 = joined_rise before after place j rise k (length after - 1) 0 lt (omega arith) in omega arith
-    | inr ge ↦ let same : k ≡ length after - 1 = omega arith in let e : get_or after k 0 ≡ get_or after (length after - 1) 0 = ap (λ k. get_or after k 0) same in omega arith
+      | inl lt ↦ let below : get_or after k 0 < get_or after (length after - 1) 0 = joined_rise before after place j rise k (length after - 1) 0 lt (omega arith) in omega arith
+      | inr ge ↦ let same : k ≡ length after - 1 = omega arith in let e : get_or after k 0 ≡ get_or after (length after - 1) 0 = ap (λ k. get_or after k 0) same in omega arith
     ]
 
 pub joined_all : (before after : List ℕ) (place : ℕ) → Joined before after place → (s : ℕ) → Contains before s → s ≤ place → Contains after s
 joined_all before after place j s (k, within, is) small =
     elim (cases_lt k (length after)) [
-      inl lt ↦ (k, lt, ap (λ xs. get_or xs k s) j.front ∙ get_or-take (length after) before k s lt ∙ is)
-    | inr ge ↦ let past : place < get_or before k 0 = j.dropped k ge within in let at : get_or before k 0 ≡ s = get_or_default before k 0 s within ∙ is in absurd (omega arith)
+      | inl lt ↦ (k, lt, ap (λ xs. get_or xs k s) j.front ∙ get_or-take (length after) before k s lt ∙ is)
+      | inr ge ↦ let past : place < get_or before k 0 = j.dropped k ge within in let at : get_or before k 0 ≡ s = get_or_default before k 0 s within ∙ is in absurd (omega arith)
     ]
 
 -- ---- the three cases of a target
@@ -89,13 +89,13 @@ pub follow_unseen : (rows : List (List ℕ)) (marks : List Mark) (path starts : 
 follow_unseen rows marks path starts pending closed v f within is =
     let in' : v < length marks = omega (arith, f.long) in
     let weight : get_or (ones rows) v 0 + weigh (ones rows) (set marks v (Open (length path))) ≡ weigh (ones rows) marks
-          = weigh_entered (ones rows) marks v (length path) in' is in
+    = weigh_entered (ones rows) marks v (length path) in' is in
     let one : get_or (ones rows) v 0 ≡ 1 = get_or-map (λ row. 1) rows v [] 0 within in
     record {
       search = entered rows marks path starts pending closed v f.search in' is
-        (λ q q_in.
+          (λ q q_in.
           way_on (get_or path q 0) (get_or path f.place 0) v (f.search.way q f.place q_in f.within (λ s in' lt. absurd (let le : s ≤ f.place = f.last s in' in omega arith)))
-            (go (get_or path f.place 0) v v f.edge (stay v)));
+          (go (get_or path f.place 0) v v f.edge (stay v)));
       long = length-set marks v (Open (length path)) ∙ f.long;
       room = omega (arith, f.room, length_push starts (length path));
     }
@@ -105,10 +105,10 @@ pub less_unseen : (rows : List (List ℕ)) (marks : List Mark) (path starts : Li
     → work rows (set marks v (Open (length path))) (starts ++ length path ∷ []) (pending ++ waiting (length path) (get_or rows v [])) ≤ work rows marks starts pending
 less_unseen rows marks path starts pending v long within is =
     let weight : get_or (loads rows) v 0 + weigh (loads rows) (set marks v (Open (length path))) ≡ weigh (loads rows) marks
-          = weigh_entered (loads rows) marks v (length path) (omega (arith, long)) is in
+    = weigh_entered (loads rows) marks v (length path) (omega (arith, long)) is in
     let load : get_or (loads rows) v 0 ≡ length (get_or rows v []) + 2 = get_or-map (λ row. length row + 2) rows v [] 0 within in
     let edges : length (pending ++ waiting (length path) (get_or rows v [])) ≡ length pending + length (get_or rows v [])
-          = length-append pending (waiting (length path) (get_or rows v [])) ∙ ap (λ n. length pending + n) (length-map (get_or rows v []) (λ w. (length path, w))) in
+    = length-append pending (waiting (length path) (get_or rows v [])) ∙ ap (λ n. length pending + n) (length-map (get_or rows v []) (λ w. (length path, w))) in
     omega (arith, length_push starts (length path))
 
 pub follow_open : (rows : List (List ℕ)) (marks : List Mark) (path starts fewer : List ℕ) (pending : List (ℕ × ℕ)) (closed v q : ℕ)
@@ -119,7 +119,7 @@ follow_open rows marks path starts fewer pending closed v q f is j =
     let short : length fewer ≤ length starts = omega (arith, ap length j.front, length-take (length fewer) starts) in
     record {
       search = joined rows marks path starts fewer pending closed v f.place q f.search is f.within f.edge f.last
-        (joined_sub starts fewer q j) (joined_small starts fewer q j rise) (joined_all starts fewer q j) (joined_rise starts fewer q j rise);
+          (joined_sub starts fewer q j) (joined_small starts fewer q j rise) (joined_all starts fewer q j) (joined_rise starts fewer q j rise);
       long = f.long;
       room = omega (arith, f.room);
     }
@@ -152,8 +152,8 @@ follow_next rows marks path starts fewer pending rest closed start place v sound
       within = edge.0;
       edge = edge.1;
       last = λ s h. contains_more (λ s. s ≤ place) fewer start
-        (λ s old. let lt : s < start = pairs_last (λ s t. s < t) fewer start s (subst (λ xs. AllPairs (λ s t. s < t) xs) last sound.search.begins.rise) old in omega arith)
-        le s (subst (λ xs. Contains xs s) last h);
+          (λ s old. let lt : s < start = pairs_last (λ s t. s < t) fewer start s (subst (λ xs. AllPairs (λ s t. s < t) xs) last sound.search.begins.rise) old in omega arith)
+          le s (subst (λ xs. Contains xs s) last h);
     }
 
 early_all : (rows : List (List ℕ)) (path : List ℕ) (pending : List (ℕ × ℕ)) (start : ℕ) → AllPairs {X = ℕ × ℕ} (λ e f. e.0 ≤ f.0) pending → AreEarly pending start → (p v : ℕ) → Contains pending (p, v) → p < start
@@ -161,10 +161,10 @@ early_all rows path pending start rise early p v (k, within, is) =
     let last : (get_or pending (length pending - 1) (p, v)).0 < start = early (length pending - 1) (p, v) (omega arith) in
     let at : (get_or pending k (p, v)).0 ≡ p = ap (λ e. e.0) is in
     elim (cases_lt k (length pending - 1)) [
-      inl lt ↦ let le : (get_or pending k (p, v)).0 ≤ (get_or pending (length pending - 1) (p, v)).0 = rise k (length pending - 1) (p, v) lt (omega arith) in omega arith
-    | inr ge ↦
-        let same : k ≡ length pending - 1 = omega arith in
-        let e : (get_or pending k (p, v)).0 ≡ (get_or pending (length pending - 1) (p, v)).0 = ap (λ k. (get_or pending k (p, v)).0) same in omega arith
+      | inl lt ↦ let le : (get_or pending k (p, v)).0 ≤ (get_or pending (length pending - 1) (p, v)).0 = rise k (length pending - 1) (p, v) lt (omega arith) in omega arith
+      | inr ge ↦
+          let same : k ≡ length pending - 1 = omega arith in
+          let e : (get_or pending k (p, v)).0 ≡ (get_or pending (length pending - 1) (p, v)).0 = ap (λ k. (get_or pending k (p, v)).0) same in omega arith
     ]
 
 pub close_last : (rows : List (List ℕ)) (marks after : List Mark) (path starts fewer : List ℕ) (pending : List (ℕ × ℕ)) (label start : ℕ)
@@ -199,3 +199,13 @@ less_same rows marks m starts s pending w n em es ew less =
 pub row_read : (rows : List (List ℕ)) (v place : ℕ) (read row : List ℕ) (pending w : List (ℕ × ℕ)) → v < length rows → read ≡ get_or rows v read → row ≡ read
     → w ≡ pending ++ waiting place row → w ≡ pending ++ waiting place (get_or rows v [])
 row_read rows v place read row pending w within is same e = e ∙ ap (λ row. pending ++ waiting place row) (same ∙ get_or_read rows v read within is [])
+
+seen_choice : (b : Bool) (p label : ℕ) → IsSeen (cond b (Open p) (Closed label))
+seen_choice true p label = tt
+seen_choice false p label = tt
+
+-- closing leaves what was seen so
+pub seen_closing : (label start : ℕ) (m : Mark) → IsSeen m → IsSeen (closing label start m)
+seen_closing label start Unseen h = h
+seen_closing label start (Open p) h = seen_choice (nat_lt p start) p label
+seen_closing label start (Closed other) h = tt

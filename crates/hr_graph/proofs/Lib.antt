@@ -3,3 +3,4 @@ pub mod RowLemmas
 pub mod StrongSteps
 pub mod ShutSteps
 pub mod FollowSteps
+pub mod LabelSteps

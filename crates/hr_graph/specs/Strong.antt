@@ -1,5 +1,6 @@
 -- The search for strong components: the state that it keeps, by the rows of the graph.
-use Rattle.std.specs.Prelude.{◌≡◌, ◌⊎◌, ◌+◌, ◌<◌, ◌≤◌, ℕ, List, [], ◌∷◌, length, take, map, cond, nat_lt, slice_index, slice_index_or, Contains, AllPairs}
+use Rattle.std.specs.Prelude.{◌≡◌, ◌⊎◌, ◌+◌, ◌<◌, ◌≤◌, ℕ, List, [], ◌∷◌, length, take, map, replicate, cond, nat_lt, slice_index, slice_index_or, Contains, AllPairs}
+use Rattle.hr_graph.specs.Graph.{Reaches}
 use Rattle.hr_graph.specs.declared.strong.Mark.{Mark}
 use Rattle.hr_graph.specs.declared.strong.Mark.TheVariants.{Unseen, Open, Closed}
 
@@ -134,3 +135,35 @@ pub record Follows (rows : List (List ℕ)) (marks : List Mark) (path starts : L
   pub within : place < length path
   pub edge : IsTarget rows (slice_index path place) target
   pub last : (s : ℕ) → Contains starts s → s ≤ place
+
+-- the node was seen
+abbrev pub IsSeen : Mark → Type 0
+IsSeen Unseen = ⊥
+IsSeen (Open p) = Unit {0}
+IsSeen (Closed label) = Unit {0}
+
+-- what was seen stays so
+abbrev pub KeepsSeen : List Mark → List Mark → Type 0
+KeepsSeen before after = (v : ℕ) → IsSeen (mark_of before v) → IsSeen (mark_of after v)
+
+-- the number in a mark
+abbrev pub label_in : Mark → ℕ
+label_in Unseen = 0
+label_in (Open p) = 0
+label_in (Closed label) = label
+
+-- Numbers for the strong components: no edge leads to a greater one, and nodes with one number reach
+-- each other. So two nodes that reach each other have one number.
+pub record AreLabels (nodes : ℕ) (edges : List (ℕ × ℕ)) (labels : List ℕ) : Type 0 where
+  pub long : length labels ≡ nodes
+  pub small : (u : ℕ) → u < nodes → slice_index labels u < nodes
+  pub falls : (u v : ℕ) → Contains edges (u, v) → slice_index labels v ≤ slice_index labels u
+  pub way : (u v : ℕ) → u < nodes → v < nodes → slice_index labels u ≡ slice_index labels v → Reaches edges u v
+
+-- a search that has seen nothing
+pub record IsFresh (nodes : ℕ) (marks : List Mark) (path starts : List ℕ) (pending : List (ℕ × ℕ)) (closed : ℕ) : Type 0 where
+  pub marks_are : marks ≡ replicate nodes Unseen
+  pub path_is : path ≡ []
+  pub starts_are : starts ≡ []
+  pub pending_is : pending ≡ []
+  pub closed_is : closed ≡ 0

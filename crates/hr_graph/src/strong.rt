@@ -2,8 +2,9 @@
 //! group's nodes reach each other and each group reaches the next. An edge back into the path joins
 //! the groups from there on; a group with no edge left is a component, and is closed.
 ghost use Rattle.std.specs.Prelude.{◌≡◌, ◌+◌, ◌<◌, ◌≤◌, ◌++◌, ◌∷◌, ◌↔◌, ℕ, [], length, take, set, map, IfNone, IfSome, IfOk, OnOk, IsTrue, Contains, slice_index_or, vec_len};
+ghost use Rattle.std.specs.Bool.{MatchBool};
 ghost use Rattle.hr_graph.specs.Graph.{IsWithin};
-ghost use Rattle.hr_graph.specs.Strong.{IsPath, IsSound, Follows, Joined, AreEarly, HasTargets, closing, mark_of, waiting, work};
+ghost use Rattle.hr_graph.specs.Strong.{IsPath, IsSound, Follows, Joined, AreEarly, HasTargets, closing, mark_of, waiting, work, IsSeen, KeepsSeen, label_in, AreLabels, IsFresh};
 
 use crate::rows::successors;
 use hr_base::Seq;
@@ -82,7 +83,9 @@ fn shut(marks: &mut Vec<Mark>, path: &mut Vec<usize>, start: usize, label: usize
 }
 
 impl Search {
-    fn new(alloc: Global, nodes: usize) -> Result<Search, AllocError> {
+    fn new(alloc: Global, nodes: usize) -> Result<Search, AllocError>
+        ensures { IfOk result (λ s. IsFresh nodes s.marks.items s.path.items s.starts.items s.pending.items s.closed) }
+    {
         Ok(Search {
             marks: vec![in alloc; Mark::Unseen; nodes]?,
             path: Vec::new(alloc),
@@ -113,6 +116,7 @@ impl Search {
         requires follows { Follows rows.now self.old.marks.items self.old.path.items self.old.starts.items self.old.pending.items self.old.closed target }
         requires within { target < length rows.now }
         ensures sound { OnOk result (IsSound rows.now self.new.marks.items self.new.path.items self.new.starts.items self.new.pending.items self.new.closed) }
+        ensures seen { OnOk result (KeepsSeen self.old.marks.items self.new.marks.items) }
         ensures less { OnOk result (work rows.now self.new.marks.items self.new.starts.items self.new.pending.items ≤ work rows.now self.old.marks.items self.old.starts.items self.old.pending.items) }
     {
         match self.marks[target] {
@@ -133,6 +137,7 @@ impl Search {
         requires sound { IsSound rows.now self.old.marks.items self.old.path.items self.old.starts.items self.old.pending.items self.old.closed }
         requires targets { HasTargets rows.now }
         ensures sound { OnOk result (IsSound rows.now self.new.marks.items self.new.path.items self.new.starts.items self.new.pending.items self.new.closed) }
+        ensures seen { OnOk result (KeepsSeen self.old.marks.items self.new.marks.items) }
         ensures empty { OnOk result (self.new.starts.items ≡ []) }
     {
         while let Some(start) = self.starts.last().copied() {
@@ -147,20 +152,50 @@ impl Search {
         }
         Ok(())
     }
+
+    /// Closes the component of a node, and what it leads to.
+    fn visit(&mut self, rows: &[Seq<usize>], root: usize) -> Result<(), AllocError>
+        requires sound { IsSound rows.now self.old.marks.items self.old.path.items self.old.starts.items self.old.pending.items self.old.closed }
+        requires empty { self.old.starts.items ≡ [] }
+        requires targets { HasTargets rows.now }
+        requires within { root < length rows.now }
+        ensures sound { OnOk result (IsSound rows.now self.new.marks.items self.new.path.items self.new.starts.items self.new.pending.items self.new.closed) }
+        ensures empty { OnOk result (self.new.starts.items ≡ []) }
+        ensures seen { OnOk result (KeepsSeen self.old.marks.items self.new.marks.items) }
+        ensures root { OnOk result (IsSeen (mark_of self.new.marks.items root)) }
+    {
+        if !is_unseen(self.marks[root]) {
+            return Ok(());
+        }
+        self.enter(root, rows[root].as_slice())?;
+        self.explore(rows)?;
+        Ok(())
+    }
 }
 
-fn is_unseen(mark: Mark) -> bool {
+fn is_unseen(mark: Mark) -> bool
+    ensures { MatchBool result (mark ≡ Mark.Unseen) (IsSeen mark) }
+{
     match mark {
         Mark::Unseen => true,
         _ => false,
     }
 }
 
-fn label_of(mark: Mark) -> usize {
+fn label_of(mark: Mark) -> usize
+    ensures { result ≡ label_in mark }
+{
     match mark {
         Mark::Closed(label) => label,
         _ => 0,
     }
+}
+
+/// The numbers in the marks.
+fn labels_in(alloc: Global, marks: &[Mark]) -> Result<Vec<usize>, AllocError>
+    ensures { IfOk result (λ labels. labels.items ≡ map label_in marks.now) }
+{
+    marks.iter().map(|mark| label_of(*mark)).collect(alloc)
 }
 
 /// For each node the number of its strong component: nodes that reach each other have the same
@@ -169,18 +204,14 @@ pub(crate) fn labels(
     alloc: Global,
     nodes: usize,
     edges: &[(usize, usize)],
-) -> Result<Vec<usize>, AllocError> {
+) -> Result<Vec<usize>, AllocError>
+    requires { IsWithin nodes edges.now }
+    ensures { IfOk result (λ labels. AreLabels nodes edges.now labels.items) }
+{
     let rows = successors(alloc, nodes, edges)?;
     let mut search = Search::new(alloc, nodes)?;
     for root in 0..nodes {
-        if is_unseen(search.marks[root]) {
-            search.enter(root, rows[root].as_slice())?;
-            search.explore(&rows)?;
-        }
+        search.visit(&rows, root)?;
     }
-    search
-        .marks
-        .iter()
-        .map(|mark| label_of(*mark))
-        .collect(alloc)
+    labels_in(alloc, &search.marks)
 }

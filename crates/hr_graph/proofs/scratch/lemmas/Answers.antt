@@ -1,5 +1,5 @@
 use Rattle.std.proofs.Common.{refl}
-use Rattle.hr_graph.proofs.FollowSteps.{sound_same}
+use Rattle.hr_graph.proofs.LabelSteps.{labels_done}
 use Rattle.hr_graph.proofs.scratch.lemmas.Goals as goal
 
 pub returns : goal.returns

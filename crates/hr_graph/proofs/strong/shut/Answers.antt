@@ -18,9 +18,9 @@ pub index_mut-requires : goal.index_mut-requires
 index_mut-requires c =
     let k = length c.pop.new.self.items in
     let at : (k < length c.args.path.now.items) × (get_or c.args.path.now.items k 0 ≡ c.in-Some.node)
-          = node_at c.loop-path.path.items c.args.path.now.items c.pop.new.self.items c.in-Some.node c.loop-path.invariant.front c.in-Some.ensures.items in
+    = node_at c.loop-path.path.items c.args.path.now.items c.pop.new.self.items c.in-Some.node c.loop-path.invariant.front c.in-Some.ensures.items in
     let within : c.in-Some.node < length c.args.marks.now.items
-          = seen_within c.args.marks.now.items c.in-Some.node k (ap (mark_of c.args.marks.now.items) (sym at.1) ∙ c.requires.mark k at.0) in
+    = seen_within c.args.marks.now.items c.in-Some.node k (ap (mark_of c.args.marks.now.items) (sym at.1) ∙ c.requires.mark k at.0) in
     omega arith
 
 pub loop-path-preserved-in-Some : goal.loop-path-preserved-in-Some
@@ -28,7 +28,7 @@ loop-path-preserved-in-Some c = record {
   front = front_rest c.loop-path.path.items c.args.path.now.items c.pop.new.self.items c.in-Some.node c.loop-path.invariant.front c.in-Some.ensures.items;
   kept = λ lt. absurd (omega (arith, ap length c.in-Some.ensures.items, length_push c.pop.new.self.items c.in-Some.node));
   marks = closed_one c.args.marks.now.items c.loop-path.marks.items c.loop-path.path.items c.args.path.now.items c.pop.new.self.items c.in-Some.node c.args.label c.requires
-    c.loop-path.invariant.front c.in-Some.ensures.items c.loop-path.invariant.long c.loop-path.invariant.marks;
+      c.loop-path.invariant.front c.in-Some.ensures.items c.loop-path.invariant.long c.loop-path.invariant.marks;
   long = length-set c.loop-path.marks.items c.in-Some.node (Closed c.args.label) ∙ c.loop-path.invariant.long;
 }
 
