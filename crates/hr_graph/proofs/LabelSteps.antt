@@ -21,9 +21,9 @@ weigh_ones (row ∷ rows) (Closed label ∷ marks) = omega (arith, weigh_ones ro
 
 all_unseen : (n v : ℕ) → mark_of (replicate n Unseen) v ≡ Unseen
 all_unseen n v = elim (cases_lt v n) [
-    inl lt ↦ get_or-replicate n v Unseen Unseen lt
+  | inl lt ↦ get_or-replicate n v Unseen Unseen lt
   | inr ge ↦ get_or_past (replicate n Unseen) v Unseen (omega (arith, length-replicate n Unseen, ge))
-  ]
+]
 
 not_open : (n v p : ℕ) → mark_of (replicate n Unseen) v ≡ Open p → ⊥
 not_open n v p is = let clash : Unseen ≡ Open p = sym (all_unseen n v) ∙ is in cc
@@ -33,10 +33,10 @@ not_closed n v label is = let clash : Unseen ≡ Closed label = sym (all_unseen 
 
 start_search : (rows : List (List ℕ)) (n : ℕ) → IsSearch rows (replicate n Unseen) [] [] [] 0
 start_search rows n = record {
-  on_path = record { place = λ v p is. absurd (not_open n v p is); mark = λ p lt. absurd (omega (arith, lt)); };
-  begins = record { below = λ s h. absurd (contains_none s h); rise = λ i j d lt within. absurd (omega (arith, within)); cover = λ p lt. absurd (omega (arith, lt)); };
+  on_path = record { place = λ v p is. absurd (not_open n v p is); mark = λ p lt. absurd (omega (arith, lt)) };
+  begins = record { below = λ s h. absurd (contains_none s h); rise = λ i j d lt within. absurd (omega (arith, within)); cover = λ p lt. absurd (omega (arith, lt)) };
   way = λ p q lt. absurd (omega (arith, lt));
-  waits = record { edge = λ p v h. absurd (contains_none (p, v) h); rise = λ i j d lt within. absurd (omega (arith, within)); };
+  waits = record { edge = λ p v h. absurd (contains_none (p, v) h); rise = λ i j d lt within. absurd (omega (arith, within)) };
   edge = λ p v lt. absurd (omega (arith, lt));
   shut = record {
     edge = λ u v label is. absurd (not_closed n u label is);
@@ -49,7 +49,7 @@ pub fresh_sound : (rows : List (List ℕ)) (n : ℕ) (marks : List Mark) (path s
     → length rows ≡ n → IsFresh n marks path starts pending closed → IsSound rows marks path starts pending closed
 fresh_sound rows n marks path starts pending closed long f =
     sound_same (replicate n Unseen) marks [] path [] starts [] pending 0 closed f.marks_are f.path_is f.starts_are f.pending_is f.closed_is
-      (record { search = start_search rows n; long = length-replicate n Unseen ∙ sym long; room = omega (arith, weigh_ones rows (replicate n Unseen)); })
+    (record { search = start_search rows n; long = length-replicate n Unseen ∙ sym long; room = omega (arith, weigh_ones rows (replicate n Unseen)) })
 
 -- with no group there is no open node
 no_place : (rows : List (List ℕ)) (marks : List Mark) (path starts : List ℕ) (pending : List (ℕ × ℕ)) (closed p : ℕ) → IsSound rows marks path starts pending closed → starts ≡ [] → p < length path → ⊥
@@ -63,16 +63,16 @@ pub enter_root : (rows : List (List ℕ)) (marks : List Mark) (path starts : Lis
 enter_root rows marks path starts pending closed v sound empty within is =
     let in' : v < length marks = omega (arith, sound.long) in
     let weight : get_or (ones rows) v 0 + weigh (ones rows) (set marks v (Open (length path))) ≡ weigh (ones rows) marks
-          = weigh_entered (ones rows) marks v (length path) in' is in
+    = weigh_entered (ones rows) marks v (length path) in' is in
     let one : get_or (ones rows) v 0 ≡ 1 = get_or-map (λ row. 1) rows v [] 0 within in
     let but : IsSearchBut v rows marks path starts pending closed = record {
-          on_path = sound.search.on_path;
-          begins = sound.search.begins;
-          way = sound.search.way;
-          waits = sound.search.waits;
-          edge = λ p w lt target. absurd (no_place rows marks path starts pending closed p sound empty lt);
-          shut = sound.search.shut;
-        } in
+      on_path = sound.search.on_path;
+      begins = sound.search.begins;
+      way = sound.search.way;
+      waits = sound.search.waits;
+      edge = λ p w lt target. absurd (no_place rows marks path starts pending closed p sound empty lt);
+      shut = sound.search.shut;
+    } in
     record {
       search = entered rows marks path starts pending closed v but in' is (λ q lt. absurd (no_place rows marks path starts pending closed q sound empty lt));
       long = length-set marks v (Open (length path)) ∙ sound.long;
@@ -101,23 +101,23 @@ pub labels_done : (n : ℕ) (edges : List (ℕ × ℕ)) (rows : List (List ℕ))
 labels_done n edges rows marks path starts pending closed are ends sound empty seen =
     let long : length marks ≡ n = sound.long ∙ are.length_is in
     let known : (v : ℕ) → v < n → (label : ℕ) × (mark_of marks v ≡ Closed label)
-          = λ v lt. closed_mark (mark_of marks v) (seen v lt) (λ p is. no_place rows marks path starts pending closed p sound empty (sound.search.on_path.place v p is).0) in
+    = λ v lt. closed_mark (mark_of marks v) (seen v lt) (λ p is. no_place rows marks path starts pending closed p sound empty (sound.search.on_path.place v p is).0) in
     let label_is : (v : ℕ) (lt : v < n) → get_or (map label_in marks) v 0 ≡ (known v lt).0
-          = λ v lt. get_or-map label_in marks v Unseen 0 (omega arith) ∙ ap label_in (known v lt).1 in
+    = λ v lt. get_or-map label_in marks v Unseen 0 (omega arith) ∙ ap label_in (known v lt).1 in
     let both : (u v : ℕ) → Contains edges (u, v) → (u < n) × (v < n)
-          = λ u v h.
-            let end : ((get_or edges h.0 (u, v)).0 < n) × ((get_or edges h.0 (u, v)).1 < n) = ends h.0 (u, v) h.1 in
-            (omega (arith, ap (λ e. e.0) h.2, end.0), omega (arith, ap (λ e. e.1) h.2, end.1)) in
+    = λ u v h.
+    let end : ((get_or edges h.0 (u, v)).0 < n) × ((get_or edges h.0 (u, v)).1 < n) = ends h.0 (u, v) h.1 in
+    (omega (arith, ap (λ e. e.0) h.2, end.0), omega (arith, ap (λ e. e.1) h.2, end.1)) in
     record {
       long = length-map marks label_in ∙ long;
       small = λ u lt. let below : (known u lt).0 < closed = sound.search.shut.below u (known u lt).0 (known u lt).1 in omega (arith, label_is u lt, sound.room, are.length_is);
       falls = λ u v edge.
-        let lu : u < n = (both u v edge).0 in
-        let lv : v < n = (both u v edge).1 in
-        let later : IsNotLater (known u lu).0 (mark_of marks v) = sound.search.shut.edge u v (known u lu).0 (known u lu).1 (are.complete u v edge) in
-        let le : (known v lv).0 ≤ (known u lu).0 = subst (λ m. IsNotLater (known u lu).0 m) (known v lv).1 later in
-        omega (arith, label_is u lu, label_is v lv);
+          let lu : u < n = (both u v edge).0 in
+          let lv : v < n = (both u v edge).1 in
+          let later : IsNotLater (known u lu).0 (mark_of marks v) = sound.search.shut.edge u v (known u lu).0 (known u lu).1 (are.complete u v edge) in
+          let le : (known v lv).0 ≤ (known u lu).0 = subst (λ m. IsNotLater (known u lu).0 m) (known v lv).1 later in
+          omega (arith, label_is u lu, label_is v lv);
       way = λ u v lu lv same.
-        let e : (known v lv).0 ≡ (known u lu).0 = sym (label_is v lv) ∙ sym same ∙ label_is u lu in
-        reaches_by n edges rows u v are (sound.search.shut.way u v (known u lu).0 (known u lu).1 ((known v lv).1 ∙ ap Closed e));
+          let e : (known v lv).0 ≡ (known u lu).0 = sym (label_is v lv) ∙ sym same ∙ label_is u lu in
+          reaches_by n edges rows u v are (sound.search.shut.way u v (known u lu).0 (known u lu).1 ((known v lv).1 ∙ ap Closed e));
     }

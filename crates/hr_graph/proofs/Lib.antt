@@ -4,3 +4,4 @@ pub mod StrongSteps
 pub mod ShutSteps
 pub mod FollowSteps
 pub mod LabelSteps
+pub mod AgendaSteps

@@ -1,3 +1,4 @@
 pub mod Graph
 pub mod Rows
 pub mod Strong
+pub mod Ready

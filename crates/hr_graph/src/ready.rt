@@ -1,5 +1,10 @@
 //! The order in which each node comes after those that it points to, the least first where several
 //! may come. Each node that may not come yet waits for one of its targets.
+ghost use Rattle.std.specs.Prelude.{◌≡◌, ◌⊎◌, ◌<◌, ℕ, false, [], length, IfNone, IfSome, IfOk, OnOk, Contains, slice_index_or, vec_len};
+ghost use Rattle.hr_graph.specs.Graph.{IsWithin, IsInOrder, IsReady};
+ghost use Rattle.hr_graph.specs.Rows.{AreRows};
+ghost use Rattle.hr_graph.specs.Ready.{IsDone, Settled};
+
 use crate::rows::{append, empty_rows, successors};
 use hr_base::Seq;
 use std::alloc::{AllocError, Global};
@@ -27,9 +32,17 @@ impl Agenda {
     }
 
     /// Makes a node ready, or lets it wait for a target that isn't done.
-    fn settle(&mut self, node: usize) -> Result<(), AllocError> {
+    fn settle(&mut self, node: usize) -> Result<(), AllocError>
+        requires within { node < vec_len self.old.left }
+        requires targets { (v : ℕ) → Contains (slice_index_or self.old.left.items node []) v → (v < vec_len self.old.done) × (v < vec_len self.old.waiting) }
+        ensures settled { OnOk result (Settled self.old.left.items self.new.left.items self.old.waiting.items self.new.waiting.items self.old.done.items self.old.ready.keys self.new.ready.keys node) }
+        ensures done { self.new.done.items ≡ self.old.done.items }
+    {
         match last_needed(&mut self.left[node], self.done.as_slice()) {
-            Some(target) => append(&mut self.waiting[target], node),
+            Some(target) => {
+                append(&mut self.waiting[target], node)?;
+                Ok(())
+            }
             None => {
                 self.ready.insert(node)?;
                 Ok(())
@@ -39,7 +52,13 @@ impl Agenda {
 }
 
 /// The last target that isn't done. Those behind it are dropped.
-fn last_needed(row: &mut Seq<usize>, done: &[bool]) -> Option<usize> {
+fn last_needed(row: &mut Seq<usize>, done: &[bool]) -> Option<usize>
+    requires { (v : ℕ) → Contains row.old v → v < length done.now }
+    ensures kept { (v : ℕ) → Contains row.new v → Contains row.old v }
+    ensures dropped { (v : ℕ) → Contains row.old v → Contains row.new v ⊎ IsDone done.now v }
+    ensures none { IfNone result (row.new ≡ []) }
+    ensures some { IfSome result (λ v. Contains row.new v × (slice_index_or done.now v false ≡ false)) }
+{
     while let Some(target) = row.list.last().copied() {
         if !done[target] {
             return Some(target);

@@ -18,6 +18,6 @@ pub returns : goal.returns
 returns c =
     let i = c.loop-root.invariant in
     IfOk-weaker c.labels_in.result (λ labels. labels.items ≡ map label_in c.deref-2.result.now) (λ labels. AreLabels c.args.nodes c.args.edges.now labels.items)
-      (λ labels is. subst (λ xs. AreLabels c.args.nodes c.args.edges.now xs) (sym (is ∙ ap (map label_in) c.deref-2.ensures.value))
-        (labels_done c.args.nodes c.args.edges.now c.in_ok-rows.rows.items _ _ _ _ _ c.in_ok-rows.ensures c.requires i.sound i.empty (λ v lt. i.seen v (omega arith))))
-      c.labels_in.ensures
+    (λ labels is. subst (λ xs. AreLabels c.args.nodes c.args.edges.now xs) (sym (is ∙ ap (map label_in) c.deref-2.ensures.value))
+    (labels_done c.args.nodes c.args.edges.now c.in_ok-rows.rows.items _ _ _ _ _ c.in_ok-rows.ensures c.requires i.sound i.empty (λ v lt. i.seen v (omega arith))))
+    c.labels_in.ensures
