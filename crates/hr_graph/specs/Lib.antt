@@ -2,3 +2,4 @@ pub mod Graph
 pub mod Rows
 pub mod Strong
 pub mod Ready
+pub mod Levels

@@ -1,30 +1,32 @@
+ghost use Rattle.std.specs.Prelude.{◌≡◌, ◌<◌, ℕ, IfOk, OnOk, None, vec_len, slice_index_or};
+ghost use Rattle.hr_graph.specs.Graph.{IsWithin};
+ghost use Rattle.hr_graph.specs.Levels.{AreSteps, Reached, steps_of};
+
 use crate::rows::{reversed, successors};
-use hr_base::Seq;
 use std::alloc::{AllocError, Global};
 
-/// A search from the goal against the edges.
+/// A search from the goal against the edges, level by level.
 #[derive(Drop)]
 pub(crate) struct Levels {
     /// The number of steps from each node to the goal, where it was reached.
     steps: Vec<Option<usize>>,
-    /// The nodes that were reached, in that order.
-    queue: Vec<usize>,
+    /// The nodes that were reached, in that order, each with its steps.
+    queue: Vec<(usize, usize)>,
 }
 
 impl Levels {
-    fn reach(&mut self, node: usize, steps: usize) -> Result<(), AllocError> {
-        if self.steps[node].is_none() {
-            self.queue.push(node)?;
-            self.steps[node] = Some(steps);
+    fn reach(&mut self, node: usize, count: usize) -> Result<(), AllocError>
+        requires { node < vec_len self.old.steps }
+        ensures { OnOk result (Reached (steps_of self.old.steps.items node) node count self.old.steps.items self.new.steps.items self.old.queue.items self.new.queue.items) }
+    {
+        match self.steps[node] {
+            Some(_) => Ok(()),
+            None => {
+                self.queue.push((node, count))?;
+                self.steps[node] = Some(count);
+                Ok(())
+            }
         }
-        Ok(())
-    }
-
-    fn reach_all(&mut self, row: &[usize], steps: usize) -> Result<(), AllocError> {
-        for node in row {
-            self.reach(*node, steps)?;
-        }
-        Ok(())
     }
 }
 
@@ -34,7 +36,11 @@ pub(crate) fn distances(
     nodes: usize,
     edges: &[(usize, usize)],
     goal: usize,
-) -> Result<Vec<Option<usize>>, AllocError> {
+) -> Result<Vec<Option<usize>>, AllocError>
+    requires within { IsWithin nodes edges.now }
+    requires goal { goal < nodes }
+    ensures { IfOk result (λ steps. AreSteps nodes edges.now goal steps.items) }
+{
     let turned = reversed(alloc, edges)?;
     let rows = successors(alloc, nodes, &turned)?;
     let mut levels = Levels {
@@ -44,9 +50,9 @@ pub(crate) fn distances(
     levels.reach(goal, 0)?;
     let mut next = 0;
     while next < levels.queue.len() {
-        let node = levels.queue[next];
-        if let Some(steps) = levels.steps[node] {
-            levels.reach_all(rows[node].as_slice(), steps + 1)?;
+        let (node, count) = levels.queue[next];
+        for before in rows[node].as_slice() {
+            levels.reach(*before, count + 1)?;
         }
         next += 1;
     }

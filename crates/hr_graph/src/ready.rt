@@ -1,6 +1,6 @@
 //! The order in which each node comes after those that it points to, the least first where several
 //! may come. Each node that may not come yet waits for one of its targets.
-ghost use Rattle.std.specs.Prelude.{◌≡◌, ◌⊎◌, ◌<◌, ℕ, false, [], length, IfNone, IfSome, IfOk, OnOk, Contains, slice_index_or, vec_len};
+ghost use Rattle.std.specs.Prelude.{◌≡◌, ◌⊎◌, ◌<◌, ℕ, false, [], replicate, length, IfNone, IfSome, IfOk, OnOk, Contains, slice_index_or, vec_len};
 ghost use Rattle.hr_graph.specs.Graph.{IsWithin, IsInOrder, IsReady};
 ghost use Rattle.hr_graph.specs.Rows.{AreRows};
 ghost use Rattle.hr_graph.specs.Ready.{IsDone, Settled};
@@ -22,7 +22,13 @@ pub(crate) struct Agenda {
 }
 
 impl Agenda {
-    fn new(alloc: Global, nodes: usize, edges: &[(usize, usize)]) -> Result<Agenda, AllocError> {
+    fn new(alloc: Global, nodes: usize, edges: &[(usize, usize)]) -> Result<Agenda, AllocError>
+        requires { IsWithin nodes edges.now }
+        ensures left { IfOk result (λ agenda. AreRows nodes edges.now agenda.left.items) }
+        ensures waiting { IfOk result (λ agenda. agenda.waiting.items ≡ replicate nodes []) }
+        ensures done { IfOk result (λ agenda. agenda.done.items ≡ replicate nodes false) }
+        ensures ready { IfOk result (λ agenda. agenda.ready.keys ≡ []) }
+    {
         Ok(Agenda {
             left: successors(alloc, nodes, edges)?,
             waiting: empty_rows(alloc, nodes)?,
@@ -73,17 +79,21 @@ pub(crate) fn first_ready(
     alloc: Global,
     nodes: usize,
     edges: &[(usize, usize)],
-) -> Result<Vec<usize>, AllocError> {
+) -> Result<Vec<usize>, AllocError>
+    requires { IsWithin nodes edges.now }
+    ensures order { IfOk result (λ order. IsInOrder nodes edges.now order.items) }
+    ensures all { IfOk result (λ order. (node : ℕ) → IsReady nodes edges.now order.items node → ⊥) }
+{
     let mut agenda = Agenda::new(alloc, nodes, edges)?;
     for node in 0..nodes {
         agenda.settle(node)?;
     }
     let mut order = Vec::new(alloc);
-    while let Some(node) = agenda.ready.pop_first() {
-        order.push(node)?;
-        agenda.done[node] = true;
+    while let Some(next) = agenda.ready.pop_first() {
+        order.push(next)?;
+        agenda.done[next] = true;
         let released = mem::replace(
-            &mut agenda.waiting[node],
+            &mut agenda.waiting[next],
             Seq {
                 list: Vec::new(alloc),
             },

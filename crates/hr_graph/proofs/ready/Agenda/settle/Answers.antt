@@ -36,7 +36,7 @@ returns-in_ok-append-in-Some-clause-settled c =
         among = told.some.0;
         needed = subst (λ done. get_or done c.in-Some.target false ≡ false) c.as_slice.ensures.value told.some.1;
         waiting_is = ap (set c.args.self.now.waiting.items c.in-Some.target)
-          (c.in_ok-append-in-Some.ensures ∙ ap (λ row. row ++ c.args.node ∷ []) (row_is c.args.self.now.waiting.items c.in-Some.target c.index_mut-in-Some.result.now (omega arith) c.index_mut-in-Some.ensures.value));
+            (c.in_ok-append-in-Some.ensures ∙ ap (λ row. row ++ c.args.node ∷ []) (row_is c.args.self.now.waiting.items c.in-Some.target c.index_mut-in-Some.result.now (omega arith) c.index_mut-in-Some.ensures.value));
         ready_is = refl;
       });
     }
