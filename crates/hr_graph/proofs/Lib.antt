@@ -5,3 +5,4 @@ pub mod ShutSteps
 pub mod FollowSteps
 pub mod LabelSteps
 pub mod AgendaSteps
+pub mod LevelSteps

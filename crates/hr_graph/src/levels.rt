@@ -1,4 +1,4 @@
-ghost use Rattle.std.specs.Prelude.{◌≡◌, ◌<◌, ℕ, IfOk, OnOk, None, vec_len, slice_index_or};
+ghost use Rattle.std.specs.Prelude.{◌≡◌, ◌<◌, ℕ, [], replicate, IfOk, OnOk, None, vec_len, slice_index_or};
 ghost use Rattle.hr_graph.specs.Graph.{IsWithin};
 ghost use Rattle.hr_graph.specs.Levels.{AreSteps, Reached, steps_of};
 
@@ -15,6 +15,16 @@ pub(crate) struct Levels {
 }
 
 impl Levels {
+    fn new(alloc: Global, nodes: usize) -> Result<Levels, AllocError>
+        ensures steps { IfOk result (λ levels. levels.steps.items ≡ replicate nodes None) }
+        ensures queue { IfOk result (λ levels. levels.queue.items ≡ []) }
+    {
+        Ok(Levels {
+            steps: vec![in alloc; None; nodes]?,
+            queue: Vec::new(alloc),
+        })
+    }
+
     fn reach(&mut self, node: usize, count: usize) -> Result<(), AllocError>
         requires { node < vec_len self.old.steps }
         ensures { OnOk result (Reached (steps_of self.old.steps.items node) node count self.old.steps.items self.new.steps.items self.old.queue.items self.new.queue.items) }
@@ -43,10 +53,7 @@ pub(crate) fn distances(
 {
     let turned = reversed(alloc, edges)?;
     let rows = successors(alloc, nodes, &turned)?;
-    let mut levels = Levels {
-        steps: vec![in alloc; None; nodes]?,
-        queue: Vec::new(alloc),
-    };
+    let mut levels = Levels::new(alloc, nodes)?;
     levels.reach(goal, 0)?;
     let mut next = 0;
     while next < levels.queue.len() {
