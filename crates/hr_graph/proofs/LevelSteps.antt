@@ -277,9 +277,9 @@ turned_within n edges ends k d within =
 
 pub some_within : (steps : List (Option ℕ)) (u k : ℕ) → steps_of steps u ≡ Some k → u < length steps
 some_within steps u k is = elim (cases_lt u (length steps)) [
-    inl lt ↦ lt
+  | inl lt ↦ lt
   | inr ge ↦ absurd (none_some k (sym (get_or_past steps u None ge) ∙ is))
-  ]
+]
 
 pub ends_below : (n : ℕ) (edges : List (ℕ × ℕ)) (u v : ℕ) → IsWithin n edges → Contains edges (u, v) → (u < n) × (v < n)
 ends_below n edges u v ends h =
@@ -335,8 +335,8 @@ look n edges goal steps after queue queue_after place node count total i row l i
       at = s.kept node count l.at;
       total_is = s.total ∙ l.total_is;
       looked = λ w h. contains_more (λ w. HasSteps after w (count + 1)) (take i row) u
-        (λ w old. let k : HasSteps steps w (count + 1) = l.looked w old in (k.0, s.kept w k.0 k.1, k.2)) both.1
-        w (subst (λ t. Contains t w) (take_more row i 0 i_in) h);
+          (λ w old. let k : HasSteps steps w (count + 1) = l.looked w old in (k.0, s.kept w k.0 k.1, k.2)) both.1
+          w (subst (λ t. Contains t w) (take_more row i 0 i_in) h);
     }
 
 pub end_looking : (n : ℕ) (edges : List (ℕ × ℕ)) (goal : ℕ) (steps : List (Option ℕ)) (queue : List (ℕ × ℕ)) (place node count total i : ℕ) (row : List ℕ)
@@ -344,7 +344,7 @@ pub end_looking : (n : ℕ) (edges : List (ℕ × ℕ)) (goal : ℕ) (steps : Li
     → IsLevels edges goal steps queue (place + 1) (get_or queue (place + 1) (goal, length queue)).1
 end_looking n edges goal steps queue place node count total i row l past all =
     advance edges goal steps queue place count node l.levels l.within l.here
-      (λ u edge. l.looked u (subst (λ t. Contains t u) (sym (take_all i row past)) (all u edge)))
+    (λ u edge. l.looked u (subst (λ t. Contains t u) (sym (take_all i row past)) (all u edge)))
 
 -- the row of the node that is looked at, as it was read
 pub row_of : (n : ℕ) (edges es given : List (ℕ × ℕ)) (rows : List (List ℕ)) (row read : List ℕ) (node : ℕ) (steps : List (Option ℕ)) (count : ℕ)

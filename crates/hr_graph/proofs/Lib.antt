@@ -6,3 +6,5 @@ pub mod FollowSteps
 pub mod LabelSteps
 pub mod AgendaSteps
 pub mod LevelSteps
+pub mod CycleSteps
+pub mod ShortestCycle

@@ -3,3 +3,4 @@ pub mod Rows
 pub mod Strong
 pub mod Ready
 pub mod Levels
+pub mod Cycle

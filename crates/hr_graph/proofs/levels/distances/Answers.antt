@@ -14,7 +14,7 @@ successors-requires c = subst (IsWithin c.args.nodes) (sym (c.deref.ensures.valu
 pub loop-next-init : goal.loop-next-init
 loop-next-init c =
     let start = start_levels c.args.nodes c.args.edges.now c.args.goal _ _ _ _ c.requires.goal c.in_ok-levels.ensures.steps c.in_ok-levels.ensures.queue c.in_ok-reach.ensures in
-    record { levels = start.0; long = start.1; past = omega arith; }
+    record { levels = start.0; long = start.1; past = omega arith }
 
 pub index-requires-in-loop-next : goal.index-requires-in-loop-next
 index-requires-in-loop-next c =
@@ -33,7 +33,7 @@ reach-requires-in-loop-before c =
     let l = c.loop-before.invariant in
     let u = get_or c.as_slice-before-items.result.now c.loop-before.before-index 0 in
     let r = row_of c.args.nodes c.args.edges.now _ _ _ c.as_slice-before-items.result.now c.index-in-loop-next.result.now c.index.result.now.0 _ c.index.result.now.1
-          c.in_ok-rows.ensures c.deref.ensures.value c.in_ok-turned.ensures l.at l.long c.index-in-loop-next.ensures c.as_slice-before-items.ensures in
+    c.in_ok-rows.ensures c.deref.ensures.value c.in_ok-turned.ensures l.at l.long c.index-in-loop-next.ensures c.as_slice-before-items.ensures in
     let edge = row_edge c.args.nodes c.args.edges.now c.in_ok-rows.rows.items c.as_slice-before-items.result.now u c.index.result.now.0 r.0 r.1 (Contains-get_or c.as_slice-before-items.result.now c.loop-before.before-index 0 c.loop-before-test.true) in
     let lt = (ends_below c.args.nodes c.args.edges.now u c.index.result.now.0 c.requires.within edge).0 in
     omega (arith, lt, l.long)
@@ -43,16 +43,16 @@ loop-before-preserved c =
     let l = c.loop-before.invariant in
     let u = get_or c.as_slice-before-items.result.now c.loop-before.before-index 0 in
     let r = row_of c.args.nodes c.args.edges.now _ _ _ c.as_slice-before-items.result.now c.index-in-loop-next.result.now c.index.result.now.0 _ c.index.result.now.1
-          c.in_ok-rows.ensures c.deref.ensures.value c.in_ok-turned.ensures l.at l.long c.index-in-loop-next.ensures c.as_slice-before-items.ensures in
+    c.in_ok-rows.ensures c.deref.ensures.value c.in_ok-turned.ensures l.at l.long c.index-in-loop-next.ensures c.as_slice-before-items.ensures in
     let edge = row_edge c.args.nodes c.args.edges.now c.in_ok-rows.rows.items c.as_slice-before-items.result.now u c.index.result.now.0 r.0 r.1 (Contains-get_or c.as_slice-before-items.result.now c.loop-before.before-index 0 c.loop-before-test.true) in
     look _ _ _ _ _ _ _ _ _ _ _ c.loop-before.before-index c.as_slice-before-items.result.now l c.loop-before-test.true edge
-      (ends_below c.args.nodes c.args.edges.now u c.index.result.now.0 c.requires.within edge).0 c.in_ok-reach-2.ensures
+    (ends_below c.args.nodes c.args.edges.now u c.index.result.now.0 c.requires.within edge).0 c.in_ok-reach-2.ensures
 
 pub loop-next-preserved : goal.loop-next-preserved
 loop-next-preserved c =
     let l = c.loop-before.invariant in
     let r = row_of c.args.nodes c.args.edges.now _ _ _ c.as_slice-before-items.result.now c.index-in-loop-next.result.now c.index.result.now.0 _ c.index.result.now.1
-          c.in_ok-rows.ensures c.deref.ensures.value c.in_ok-turned.ensures l.at l.long c.index-in-loop-next.ensures c.as_slice-before-items.ensures in
+    c.in_ok-rows.ensures c.deref.ensures.value c.in_ok-turned.ensures l.at l.long c.index-in-loop-next.ensures c.as_slice-before-items.ensures in
     record {
       levels = end_looking _ _ _ _ _ _ _ _ _ c.loop-before.before-index c.as_slice-before-items.result.now l c.loop-before-test.false (λ u edge. edge_row c.args.nodes c.args.edges.now c.in_ok-rows.rows.items c.as_slice-before-items.result.now u c.index.result.now.0 r.0 r.1 edge);
       long = l.long;
