@@ -1,13 +1,14 @@
 -- The first node on a cycle, and the nearest node of a row, one element at a time.
 use Rattle.std.proofs.Common.{◌≡◌, ◌⊎◌, ◌+◌, ◌<◌, ◌≤◌, ◌++◌, ◌∷◌, ℕ, [], List, Option, Some, None, length, take, get_or, min, arith, sym, ◌∙◌, ap, subst, refl, inl, inr}
-use Rattle.std.specs.Prelude.{Contains}
+use Rattle.std.specs.Prelude.{Contains, IfNone, IfSome}
 use Rattle.std.proofs.lemmas.Bool.{cases_eq, cases_lt}
 use Rattle.std.proofs.lemmas.List.{take_more, take_all, get_or_read}
 use Rattle.std.proofs.lemmas.List.Elements.{Contains-push}
-use Rattle.hr_graph.specs.Graph.{Reaches, here, along}
+use Rattle.hr_graph.specs.Graph.{IsWithin, Reaches, here, along}
 use Rattle.hr_graph.specs.Strong.{AreLabels}
 use Rattle.hr_graph.specs.Levels.{steps_of}
 use Rattle.hr_graph.specs.Cycle.{IsNumbered, IsFirstOn, IsFirstEqual, IsNearest, IsNearer, IsNotAfter, lesser}
+use Rattle.hr_graph.proofs.LevelSteps.{ends_below}
 use Rattle.hr_graph.proofs.Members.{contains_none, contains_more, contains_kept}
 
 some_same : {X : Type 0} (x y : X) → ◌≡◌ {A = Option X} (Some x) (Some y) → x ≡ y
@@ -105,3 +106,11 @@ nearest_none row steps (Some best) v keeps is =
     (contains_kept row v best.1 keeps.0, keeps.1,
      λ w j h at_w. contains_more (λ w. (j : ℕ) → steps_of steps w ≡ Some j → IsNotAfter best (j, w)) row v
        (λ w old j at_w. keeps.2 w j old at_w) (λ j at_v. absurd (none_some j (sym is ∙ at_v))) w h j at_w)
+
+pub found_none : (nodes : ℕ) (edges : List (ℕ × ℕ)) (labels : List ℕ) (r : Option ℕ) → AreLabels nodes edges labels → IsFirstEqual labels edges r → IfNone r (IsNumbered edges)
+found_none nodes edges labels None are found = numbered nodes edges labels are found
+found_none nodes edges labels (Some first) are found = tt
+
+pub found_some : (nodes : ℕ) (edges : List (ℕ × ℕ)) (labels : List ℕ) (r : Option ℕ) → IsWithin nodes edges → AreLabels nodes edges labels → IsFirstEqual labels edges r → IfSome r (IsFirstOn edges)
+found_some nodes edges labels None ends are found = tt
+found_some nodes edges labels (Some first) ends are found = first_on nodes edges labels first (λ u v h. ends_below nodes edges u v ends h) are found

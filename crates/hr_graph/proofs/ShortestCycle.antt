@@ -1,16 +1,19 @@
 -- The cycle that goes from each node to the nearest is the shortest and the first of these.
 use Rattle.std.proofs.Common.{◌≡◌, ◌≢◌, ◌⊎◌, ◌+◌, ◌<◌, ◌≤◌, ◌++◌, ◌∷◌, ℕ, zero, suc, [], List, Option, Some, None, length, get_or, arith, sym, ◌∙◌, ap, subst, refl, inl, inr}
-use Rattle.std.specs.Prelude.{Contains}
+use Rattle.std.specs.Prelude.{Contains, All}
 use Rattle.std.specs.Cmp.Lexicographic.{slice_cmp}
 use Rattle.std.specs.Ordering.{nat_cmp, ordering_then}
 use Rattle.std.specs.Cmp.{nat_cmp_is}
 use Rattle.std.specs.declared.cmp.Ordering.{Ordering}
 use Rattle.std.specs.declared.cmp.Ordering.TheVariants.{Less, Equal, Greater}
 use Rattle.std.proofs.lemmas.Bool.{cases_eq, cases_lt}
-use Rattle.hr_graph.specs.Graph.{Reaches, here, along, Leads, IsFirstCycle}
+use Rattle.std.proofs.lemmas.List.Elements.{Contains-get_or}
+use Rattle.hr_graph.specs.Rows.{AreRows}
+use Rattle.hr_graph.specs.Graph.{IsWithin, Reaches, here, along, Leads, IsFirstCycle}
 use Rattle.hr_graph.specs.Levels.{steps_of, AreSteps}
-use Rattle.hr_graph.specs.Cycle.{IsFirstOn, IsNotAfter, IsNearest}
-use Rattle.hr_graph.proofs.LevelSteps.{HasSteps}
+use Rattle.hr_graph.specs.Cycle.{IsFirstOn, IsNotAfter, IsNearest, IsLeastThrough}
+use Rattle.hr_graph.proofs.LevelSteps.{HasSteps, ends_below, some_within}
+use Rattle.std.proofs.lemmas.List.{get_or_read}
 
 some_same : (j k : ℕ) → ◌≡◌ {A = Option ℕ} (Some j) (Some k) → j ≡ k
 some_same j k e = cc
@@ -155,3 +158,91 @@ first_cycle n edges goal steps vs last k first are c best =
       shortest = all.1.0;
       earliest = all.1.1;
     }
+
+-- the nearest of u, by the answer of a look at its row
+abbrev pub BestOf : List (ℕ × ℕ) → List (Option ℕ) → ℕ → Option (ℕ × ℕ) → Type 0
+BestOf edges steps u None = ⊥
+BestOf edges steps u (Some best) = IsBest edges steps u best.0 best.1
+
+best_of : (n : ℕ) (edges : List (ℕ × ℕ)) (rows : List (List ℕ)) (steps : List (Option ℕ)) (row : List ℕ) (u : ℕ) (best : Option (ℕ × ℕ)) (v k : ℕ)
+    → AreRows n edges rows → row ≡ get_or rows u [] → IsNearest row steps best → Contains edges (u, v) → steps_of steps v ≡ Some k → BestOf edges steps u best
+best_of n edges rows steps row u None v k are is near edge at = near v k (subst (λ r. Contains r v) (sym is) (are.complete u v edge)) at
+best_of n edges rows steps row u (Some best) v k are is near edge at = record {
+  edge = are.sound u best.1 (subst (λ r. Contains r best.1) is near.0);
+  at = near.1;
+  least = λ w j e at_w. near.2 w j (subst (λ r. Contains r w) (sym is) (are.complete u w e)) at_w;
+}
+
+-- the cycle as far as it was found, and the node that comes next
+pub record IsComing (edges : List (ℕ × ℕ)) (steps : List (Option ℕ)) (first : ℕ) (cycle : List ℕ) (best : Option (ℕ × ℕ)) : Type 0 where
+  pub nodes : List ℕ
+  pub last : ℕ
+  pub cycle_is : cycle ≡ first ∷ nodes
+  pub chosen : Chosen edges steps first first nodes last
+  pub next : BestOf edges steps last best
+
+-- how many steps are left
+abbrev pub left_of : Option (ℕ × ℕ) → ℕ
+left_of None = 0
+left_of (Some best) = best.0 + 1
+
+pub begin_cycle : (n : ℕ) (edges : List (ℕ × ℕ)) (rows : List (List ℕ)) (steps : List (Option ℕ)) (first : ℕ) (row cycle : List ℕ) (best : Option (ℕ × ℕ))
+    → IsFirstOn edges first → AreRows n edges rows → AreSteps n edges first steps → row ≡ get_or rows first [] → IsNearest row steps best → cycle ≡ first ∷ []
+    → IsComing edges steps first cycle best
+begin_cycle n edges rows steps first row cycle best on are stepped is near c =
+    let at : (j : ℕ) × (steps_of steps on.target ≡ Some j) = reaches_steps n edges first steps on.target stepped on.back in
+    record { nodes = []; last = first; cycle_is = c; chosen = refl; next = best_of n edges rows steps row first best on.target at.0 are is near on.edge at.1; }
+
+next_best : (n : ℕ) (edges : List (ℕ × ℕ)) (rows : List (List ℕ)) (steps : List (Option ℕ)) (first last k node : ℕ) (row : List ℕ) (best : Option (ℕ × ℕ))
+    → AreRows n edges rows → AreSteps n edges first steps → IsBest edges steps last k node → (node ≡ first → ⊥) → row ≡ get_or rows node [] → IsNearest row steps best → BestOf edges steps node best
+next_best n edges rows steps first last k node row best are stepped b other is near = elim (stepped.next node k b.at) [
+    inl same ↦ absurd (other same)
+  | inr w ↦ best_of n edges rows steps row node best w.0 w.1 are is near w.2 w.3
+  ]
+
+pub more_cycle : (n : ℕ) (edges : List (ℕ × ℕ)) (rows : List (List ℕ)) (steps : List (Option ℕ)) (first : ℕ) (cycle after row : List ℕ) (k node : ℕ) (best : Option (ℕ × ℕ))
+    → AreRows n edges rows → AreSteps n edges first steps → IsComing edges steps first cycle (Some (k, node)) → (node ≡ first → ⊥)
+    → row ≡ get_or rows node [] → IsNearest row steps best → after ≡ cycle ++ node ∷ [] → IsComing edges steps first after best
+more_cycle n edges rows steps first cycle after row k node best are stepped coming other is near grown = record {
+  nodes = coming.nodes ++ node ∷ [];
+  last = node;
+  cycle_is = grown ∙ ap (λ c. c ++ node ∷ []) coming.cycle_is;
+  chosen = chosen_more edges steps first first coming.nodes coming.last k node coming.chosen coming.next other;
+  next = next_best n edges rows steps first coming.last k node row best are stepped coming.next other is near;
+}
+
+fewer_left : (n : ℕ) (edges : List (ℕ × ℕ)) (steps : List (Option ℕ)) (first node k : ℕ) (best : Option (ℕ × ℕ)) → AreSteps n edges first steps → (node ≡ first → ⊥) → steps_of steps node ≡ Some k → BestOf edges steps node best → left_of best < k + 1
+fewer_left n edges steps first node k None stepped other at b = absurd b
+fewer_left n edges steps first node k (Some best) stepped other at b = omega (arith, one_fewer n edges first steps node k best.0 best.1 stepped other at b)
+
+pub less_left : (n : ℕ) (edges : List (ℕ × ℕ)) (rows : List (List ℕ)) (steps : List (Option ℕ)) (first : ℕ) (cycle row : List ℕ) (k node : ℕ) (best : Option (ℕ × ℕ))
+    → AreRows n edges rows → AreSteps n edges first steps → IsComing edges steps first cycle (Some (k, node)) → (node ≡ first → ⊥)
+    → row ≡ get_or rows node [] → IsNearest row steps best → left_of best < k + 1
+less_left n edges rows steps first cycle row k node best are stepped coming other is near =
+    fewer_left n edges steps first node k best stepped other coming.next.at (next_best n edges rows steps first coming.last k node row best are stepped coming.next other is near)
+
+pub end_cycle : (n : ℕ) (edges : List (ℕ × ℕ)) (steps : List (Option ℕ)) (first : ℕ) (cycle : List ℕ) (k node : ℕ)
+    → IsFirstOn edges first → AreSteps n edges first steps → IsComing edges steps first cycle (Some (k, node)) → node ≡ first → IsLeastThrough edges first cycle
+end_cycle n edges steps first cycle k node on stepped coming is =
+    subst (IsLeastThrough edges first) (sym coming.cycle_is)
+      (refl, first_cycle n edges first steps coming.nodes coming.last k on stepped coming.chosen (subst (λ v. IsBest edges steps coming.last k v) is coming.next))
+
+-- the targets that a row has are nodes
+pub row_within : (n : ℕ) (edges : List (ℕ × ℕ)) (rows : List (List ℕ)) (row : List ℕ) (u m : ℕ) → IsWithin n edges → AreRows n edges rows → row ≡ get_or rows u [] → m ≡ n → All (λ v. v < m) row
+row_within n edges rows row u m ends are is long i d i_in =
+    let edge : Contains edges (u, get_or row i d) = are.sound u (get_or row i d) (subst (λ r. Contains r (get_or row i d)) is (Contains-get_or row i d i_in)) in
+    let lt : get_or row i d < n = (ends_below n edges u (get_or row i d) ends edge).1 in
+    omega arith
+
+-- a row, as it was read
+pub row_at : (n : ℕ) (edges : List (ℕ × ℕ)) (rows : List (List ℕ)) (row read : List ℕ) (u : ℕ) → AreRows n edges rows → u < n → read ≡ get_or rows u read → row ≡ read → row ≡ get_or rows u []
+row_at n edges rows row read u are lt is same = same ∙ get_or_read rows u read (omega (arith, are.length_is)) is []
+
+pub coming_at : (edges : List (ℕ × ℕ)) (steps : List (Option ℕ)) (first : ℕ) (cycle : List ℕ) (best : Option (ℕ × ℕ)) (x : ℕ × ℕ) → best ≡ Some x → IsComing edges steps first cycle best → IsComing edges steps first cycle (Some x)
+coming_at edges steps first cycle best x is coming = subst (IsComing edges steps first cycle) is coming
+
+pub coming_within : (n : ℕ) (edges : List (ℕ × ℕ)) (steps : List (Option ℕ)) (first : ℕ) (cycle : List ℕ) (k node : ℕ) → AreSteps n edges first steps → IsComing edges steps first cycle (Some (k, node)) → node < n
+coming_within n edges steps first cycle k node stepped coming = let lt : node < length steps = some_within steps node k coming.next.at in omega (arith, stepped.long)
+
+pub first_within : (n : ℕ) (edges : List (ℕ × ℕ)) (first : ℕ) → IsWithin n edges → IsFirstOn edges first → first < n
+first_within n edges first ends on = (ends_below n edges first on.target ends on.edge).0
