@@ -8,3 +8,4 @@ pub mod AgendaSteps
 pub mod LevelSteps
 pub mod CycleSteps
 pub mod ShortestCycle
+pub mod NameSteps

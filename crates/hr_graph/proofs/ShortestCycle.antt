@@ -51,14 +51,14 @@ reaches_steps n edges goal steps u are (along _ v _ edge rest) =
 -- the nearest of a node has one step fewer
 pub one_fewer : (n : ℕ) (edges : List (ℕ × ℕ)) (goal : ℕ) (steps : List (Option ℕ)) (u i k v : ℕ) → AreSteps n edges goal steps → (u ≡ goal → ⊥) → steps_of steps u ≡ Some i → IsBest edges steps u k v → i ≡ k + 1
 one_fewer n edges goal steps u i k v are other at best = elim (are.next u i at) [
-    inl is ↦ absurd (other is)
+  | inl is ↦ absurd (other is)
   | inr w ↦
       let least : IsNotAfter (k, v) (w.1, w.0) = best.least w.0 w.1 w.2 w.3 in
       let le : k ≤ w.1 = elim least [ inl lt ↦ omega arith | inr same ↦ omega (arith, same.0) ] in
       let up : HasSteps steps u (k + 1) = are.falls u v k best.edge best.at in
       let same : i ≡ up.0 = some_same i up.0 (sym at ∙ up.1) in
       omega (arith, up.2, w.4)
-  ]
+]
 
 less_then : (a b : ℕ) (o : Ordering) → a < b → ordering_then (nat_cmp a b) o ≡ Less
 less_then a b o lt = ap (λ r. ordering_then r o) (sym (nat_cmp_is a b Less lt))
@@ -77,11 +77,11 @@ pub first_step : (n : ℕ) (edges : List (ℕ × ℕ)) (goal : ℕ) (steps : Lis
 first_step n edges goal steps u k v vs w ws are best long lead same rest =
     let far : HasSteps steps w (length ws + 1) = way_steps n edges goal steps w ws are lead.1 in
     elim (best.least w far.0 lead.0 far.1) [
-      inl lt ↦ absurd (omega (arith, far.2))
-    | inr known ↦ elim (cases_eq v w) [
-          inl e ↦ λ g. rest (subst (λ x. Leads edges x ws goal) (sym e) lead.1) (sym (equal_then v w (slice_cmp nat_cmp vs ws) e) ∙ g)
+      | inl lt ↦ absurd (omega (arith, far.2))
+      | inr known ↦ elim (cases_eq v w) [
+        | inl e ↦ λ g. rest (subst (λ x. Leads edges x ws goal) (sym e) lead.1) (sym (equal_then v w (slice_cmp nat_cmp vs ws) e) ∙ g)
         | inr ne ↦ let lt : v < w = omega (arith, known.1) in not_greater _ (less_then v w (slice_cmp nat_cmp vs ws) lt)
-        ]
+      ]
     ]
 
 -- from a node that is not the goal: as long as its steps, and first of all ways of that length
@@ -99,7 +99,7 @@ chosen_first n edges goal steps u i [] last k are other at is best =
 chosen_first n edges goal steps u i (v ∷ vs) last k are other at c best =
     let b : IsBest edges steps u c.0.0 v = c.0.1 in
     let rest : (length vs + 1 ≡ c.0.0) × (Leads edges v vs goal × ((way : List ℕ) → Leads edges v way goal → length way ≡ length vs → slice_cmp nat_cmp vs way ≢ Greater))
-          = chosen_first n edges goal steps v c.0.0 vs last k are c.1 b.at c.2 best in
+    = chosen_first n edges goal steps v c.0.0 vs last k are c.1 b.at c.2 best in
     (omega (arith, one_fewer n edges goal steps u i c.0.0 v are other at b, rest.0), ((b.edge, rest.1.0), first_of_all b rest.0 rest.1.1))
   where
     first_of_all : {j : ℕ} → IsBest edges steps u j v → length vs + 1 ≡ j → ((way : List ℕ) → Leads edges v way goal → length way ≡ length vs → slice_cmp nat_cmp vs way ≢ Greater)
@@ -113,7 +113,7 @@ chosen_first n edges goal steps u i (v ∷ vs) last k are other at c best =
 pub chosen_cycle : (n : ℕ) (edges : List (ℕ × ℕ)) (goal : ℕ) (steps : List (Option ℕ)) (vs : List ℕ) (last k : ℕ)
     → AreSteps n edges goal steps → Chosen edges steps goal goal vs last → IsBest edges steps last k goal
     → Leads edges goal vs goal × (((way : List ℕ) → Leads edges goal way goal → length vs ≤ length way)
-      × ((way : List ℕ) → Leads edges goal way goal → length way ≡ length vs → slice_cmp nat_cmp vs way ≢ Greater))
+    × ((way : List ℕ) → Leads edges goal way goal → length way ≡ length vs → slice_cmp nat_cmp vs way ≢ Greater))
 chosen_cycle n edges goal steps [] last k are is best =
     ((subst (λ w. IsBest edges steps w k goal) (sym is) best).edge, ((λ way lead. omega arith), same_empty))
   where
@@ -123,7 +123,7 @@ chosen_cycle n edges goal steps [] last k are is best =
 chosen_cycle n edges goal steps (v ∷ vs) last k are c best =
     let b : IsBest edges steps goal c.0.0 v = c.0.1 in
     let rest : (length vs + 1 ≡ c.0.0) × (Leads edges v vs goal × ((way : List ℕ) → Leads edges v way goal → length way ≡ length vs → slice_cmp nat_cmp vs way ≢ Greater))
-          = chosen_first n edges goal steps v c.0.0 vs last k are c.1 b.at c.2 best in
+    = chosen_first n edges goal steps v c.0.0 vs last k are c.1 b.at c.2 best in
     ((b.edge, rest.1.0), (shortest b rest.0, first_of_all b rest.0 rest.1.1))
   where
     shortest : {j : ℕ} → IsBest edges steps goal j v → length vs + 1 ≡ j → (way : List ℕ) → Leads edges goal way goal → length (v ∷ vs) ≤ length way
@@ -131,6 +131,7 @@ chosen_cycle n edges goal steps (v ∷ vs) last k are c best =
     shortest {j} b long (w ∷ ws) lead =
         let far : HasSteps steps w (length ws + 1) = way_steps n edges goal steps w ws are lead.1 in
         elim (b.least w far.0 lead.0 far.1) [ inl lt ↦ omega (arith, lt, far.2, long) | inr same ↦ omega (arith, same.0, far.2, long) ]
+
     first_of_all : {j : ℕ} → IsBest edges steps goal j v → length vs + 1 ≡ j → ((way : List ℕ) → Leads edges v way goal → length way ≡ length vs → slice_cmp nat_cmp vs way ≢ Greater)
         → (way : List ℕ) → Leads edges goal way goal → length way ≡ length (v ∷ vs) → slice_cmp nat_cmp (v ∷ vs) way ≢ Greater
     first_of_all b long rest [] lead same = absurd (omega (arith, same))
@@ -149,12 +150,12 @@ pub first_cycle : (n : ℕ) (edges : List (ℕ × ℕ)) (goal : ℕ) (steps : Li
     → IsFirstOn edges goal → AreSteps n edges goal steps → Chosen edges steps goal goal vs last → IsBest edges steps last k goal → IsFirstCycle edges goal vs
 first_cycle n edges goal steps vs last k first are c best =
     let all : Leads edges goal vs goal × (((way : List ℕ) → Leads edges goal way goal → length vs ≤ length way)
-          × ((way : List ℕ) → Leads edges goal way goal → length way ≡ length vs → slice_cmp nat_cmp vs way ≢ Greater)) = chosen_cycle n edges goal steps vs last k are c best in
+    × ((way : List ℕ) → Leads edges goal way goal → length way ≡ length vs → slice_cmp nat_cmp vs way ≢ Greater)) = chosen_cycle n edges goal steps vs last k are c best in
     record {
       cycle = all.0;
       begins = λ other way lead.
-        let on : (v : ℕ) × Contains edges (other, v) × Reaches edges v other = leads_reaches edges other way other lead in
-        first.least other on.0 on.1 on.2;
+          let on : (v : ℕ) × Contains edges (other, v) × Reaches edges v other = leads_reaches edges other way other lead in
+          first.least other on.0 on.1 on.2;
       shortest = all.1.0;
       earliest = all.1.1;
     }
@@ -191,14 +192,14 @@ pub begin_cycle : (n : ℕ) (edges : List (ℕ × ℕ)) (rows : List (List ℕ))
     → IsComing edges steps first cycle best
 begin_cycle n edges rows steps first row cycle best on are stepped is near c =
     let at : (j : ℕ) × (steps_of steps on.target ≡ Some j) = reaches_steps n edges first steps on.target stepped on.back in
-    record { nodes = []; last = first; cycle_is = c; chosen = refl; next = best_of n edges rows steps row first best on.target at.0 are is near on.edge at.1; }
+    record { nodes = []; last = first; cycle_is = c; chosen = refl; next = best_of n edges rows steps row first best on.target at.0 are is near on.edge at.1 }
 
 next_best : (n : ℕ) (edges : List (ℕ × ℕ)) (rows : List (List ℕ)) (steps : List (Option ℕ)) (first last k node : ℕ) (row : List ℕ) (best : Option (ℕ × ℕ))
     → AreRows n edges rows → AreSteps n edges first steps → IsBest edges steps last k node → (node ≡ first → ⊥) → row ≡ get_or rows node [] → IsNearest row steps best → BestOf edges steps node best
 next_best n edges rows steps first last k node row best are stepped b other is near = elim (stepped.next node k b.at) [
-    inl same ↦ absurd (other same)
+  | inl same ↦ absurd (other same)
   | inr w ↦ best_of n edges rows steps row node best w.0 w.1 are is near w.2 w.3
-  ]
+]
 
 pub more_cycle : (n : ℕ) (edges : List (ℕ × ℕ)) (rows : List (List ℕ)) (steps : List (Option ℕ)) (first : ℕ) (cycle after row : List ℕ) (k node : ℕ) (best : Option (ℕ × ℕ))
     → AreRows n edges rows → AreSteps n edges first steps → IsComing edges steps first cycle (Some (k, node)) → (node ≡ first → ⊥)
@@ -225,7 +226,7 @@ pub end_cycle : (n : ℕ) (edges : List (ℕ × ℕ)) (steps : List (Option ℕ)
     → IsFirstOn edges first → AreSteps n edges first steps → IsComing edges steps first cycle (Some (k, node)) → node ≡ first → IsLeastThrough edges first cycle
 end_cycle n edges steps first cycle k node on stepped coming is =
     subst (IsLeastThrough edges first) (sym coming.cycle_is)
-      (refl, first_cycle n edges first steps coming.nodes coming.last k on stepped coming.chosen (subst (λ v. IsBest edges steps coming.last k v) is coming.next))
+    (refl, first_cycle n edges first steps coming.nodes coming.last k on stepped coming.chosen (subst (λ v. IsBest edges steps coming.last k v) is coming.next))
 
 -- the targets that a row has are nodes
 pub row_within : (n : ℕ) (edges : List (ℕ × ℕ)) (rows : List (List ℕ)) (row : List ℕ) (u m : ℕ) → IsWithin n edges → AreRows n edges rows → row ≡ get_or rows u [] → m ≡ n → All (λ v. v < m) row

@@ -4,3 +4,4 @@ pub mod Strong
 pub mod Ready
 pub mod Levels
 pub mod Cycle
+pub mod Modules

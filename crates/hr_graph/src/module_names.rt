@@ -1,18 +1,23 @@
+ghost use Rattle.std.specs.Prelude.{◌≡◌, ◌<◌, ℕ, [], length, map, All, IfOk, IfErr, slice_index_or};
+ghost use Rattle.hr_graph.specs.Modules.{HasNoRepeat, ArePlaces, AreEdges, IsRepeatRefused, ShowsRepeat, IsUnknownRefused, ShowsUnknown};
+
 use crate::module_order::{GraphError, ImportEdge};
 use hr_base::{Seq, Text};
 use std::alloc::{AllocError, Global};
 use std::collections::BTreeMap;
 
-/// The place of each name in the list; 9 where a name stood before.
-pub(crate) fn places(alloc: Global, names: &[Text]) -> Result<BTreeMap<Text, usize>, GraphError> {
+/// The place of each name in the list.
+pub(crate) fn places(alloc: Global, names: &[Text]) -> Result<BTreeMap<Text, usize>, GraphError>
+    ensures distinct { IfOk result (λ places. HasNoRepeat names.now) }
+    ensures places { IfOk result (λ places. ArePlaces names.now places) }
+    ensures refused { IfErr result (IsRepeatRefused names.now) }
+{
     let mut places = BTreeMap::new(alloc);
     for (place, name) in names.iter().enumerate() {
         if places.contains_key(name) {
-            return Err(GraphError::DuplicateModule {
-                name: name.clone().map_err(GraphError::Memory)?,
-            });
+            return Err(duplicate(name));
         }
-        let key = name.clone().map_err(GraphError::Memory)?;
+        let key = copy_of(name).map_err(GraphError::Memory)?;
         places
             .insert(key, place)
             .map_err(|_| GraphError::Memory(AllocError))?;
@@ -20,27 +25,55 @@ pub(crate) fn places(alloc: Global, names: &[Text]) -> Result<BTreeMap<Text, usi
     Ok(places)
 }
 
-/// The edges of the import graph; 10 where a name is unknown.
+fn copy_of(name: &Text) -> Result<Text, AllocError>
+    ensures { IfOk result (λ copy. copy ≡ name.now) }
+{
+    let copy = name.clone()?;
+    Ok(copy)
+}
+
+fn duplicate(name: &Text) -> GraphError
+    ensures { ShowsRepeat name.now result }
+{
+    match name.clone() {
+        Ok(name) => GraphError::DuplicateModule { name },
+        Err(reason) => GraphError::Memory(reason),
+    }
+}
+
+/// The edges of the import graph.
 pub(crate) fn edges(
     alloc: Global,
+    names: &[Text],
     places: &BTreeMap<Text, usize>,
     imports: &[ImportEdge],
-) -> Result<Vec<(usize, usize)>, GraphError> {
+) -> Result<Vec<(usize, usize)>, GraphError>
+    requires { ArePlaces names.now places.now }
+    ensures edges { IfOk result (λ edges. AreEdges names.now imports.now edges.items) }
+    ensures refused { IfErr result (IsUnknownRefused names.now imports.now) }
+{
     let mut edges = Vec::new(alloc);
     for import in imports {
-        match places.get(&import.to) {
-            Some(to) => edges
-                .push((import.from, *to))
-                .map_err(|_| GraphError::Memory(AllocError))?,
-            None => {
-                return Err(GraphError::NoModule {
-                    name: import.to.clone().map_err(GraphError::Memory)?,
-                    place: import.place.clone().map_err(GraphError::Memory)?,
-                });
-            }
-        }
+        let Some(to) = places.get(&import.to).copied() else {
+            return Err(unknown(import));
+        };
+        edges
+            .push((import.from, to))
+            .map_err(|_| GraphError::Memory(AllocError))?;
     }
     Ok(edges)
+}
+
+fn unknown(import: &ImportEdge) -> GraphError
+    ensures { ShowsUnknown import.now result }
+{
+    let Ok(name) = import.to.clone() else {
+        return GraphError::Memory(AllocError);
+    };
+    match import.place.clone() {
+        Ok(place) => GraphError::NoModule { name, place },
+        Err(reason) => GraphError::Memory(reason),
+    }
 }
 
 /// The names of the modules at these places.
@@ -48,10 +81,13 @@ pub(crate) fn shown(
     alloc: Global,
     names: &[Text],
     places: &[usize],
-) -> Result<Seq<Text>, AllocError> {
+) -> Result<Seq<Text>, AllocError>
+    requires { All (λ place. place < length names.now) places.now }
+    ensures { IfOk result (λ list. list ≡ map (λ place. slice_index_or names.now place []) places.now) }
+{
     let mut list = Vec::new(alloc);
     for place in places {
-        list.push(names[*place].clone()?)?;
+        list.push(copy_of(&names[*place])?)?;
     }
     Ok(Seq { list })
 }

@@ -35,7 +35,7 @@ pub fn order(
     imports: &[ImportEdge],
 ) -> Result<Vec<usize>, GraphError> {
     let places = places(alloc, names)?;
-    let edges = edges(alloc, &places, imports)?;
+    let edges = edges(alloc, names, &places, imports)?;
     match first_on_cycle(alloc, names.len(), &edges).map_err(GraphError::Memory)? {
         Some(first) => {
             let cycle = least_cycle(alloc, names.len(), &edges, first).map_err(GraphError::Memory)?;

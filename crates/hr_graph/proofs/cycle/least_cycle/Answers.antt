@@ -23,7 +23,7 @@ loop-best-init c =
 pub returns-then-node-first : goal.returns-then-node-first
 returns-then-node-first c =
     end_cycle c.args.nodes c.args.edges.now c.in_ok-steps.steps.items c.args.first c.loop-best.cycle.items c.in-Some.field-0-0 c.in-Some.node c.requires.first c.in_ok-steps.ensures
-      (coming_at _ _ _ _ c.loop-best.best (c.in-Some.field-0-0, c.in-Some.node) c.in-Some.is c.loop-best.invariant) c.if-node-first.true
+    (coming_at _ _ _ _ c.loop-best.best (c.in-Some.field-0-0, c.in-Some.node) c.in-Some.is c.loop-best.invariant) c.if-node-first.true
 
 pub nearest-best-requires-in-Some : goal.nearest-best-requires-in-Some
 nearest-best-requires-in-Some c =
@@ -31,7 +31,7 @@ nearest-best-requires-in-Some c =
     let node = c.in-Some.node in
     let coming : IsComing c.args.edges.now c.in_ok-steps.steps.items c.args.first c.loop-best.cycle.items (Some (c.in-Some.field-0-0, node)) = coming_at _ _ _ _ c.loop-best.best (c.in-Some.field-0-0, node) c.in-Some.is c.loop-best.invariant in
     let row = row_at c.args.nodes c.args.edges.now rows c.as_slice-in-Some.result.now c.index-in-Some.result.now node c.in_ok-rows.ensures
-          (coming_within c.args.nodes c.args.edges.now c.in_ok-steps.steps.items c.args.first c.loop-best.cycle.items c.in-Some.field-0-0 node c.in_ok-steps.ensures coming) c.index-in-Some.ensures c.as_slice-in-Some.ensures in
+    (coming_within c.args.nodes c.args.edges.now c.in_ok-steps.steps.items c.args.first c.loop-best.cycle.items c.in-Some.field-0-0 node c.in_ok-steps.ensures coming) c.index-in-Some.ensures c.as_slice-in-Some.ensures in
     row_within c.args.nodes c.args.edges.now rows c.as_slice-in-Some.result.now node (length c.deref-in-Some.result.now) c.requires.within c.in_ok-rows.ensures row (ap length c.deref-in-Some.ensures.value ∙ c.in_ok-steps.ensures.long)
 
 pub loop-best-smaller : goal.loop-best-smaller
@@ -40,10 +40,10 @@ loop-best-smaller c =
     let node = c.in-Some.node in
     let coming : IsComing c.args.edges.now c.in_ok-steps.steps.items c.args.first c.loop-best.cycle.items (Some (c.in-Some.field-0-0, node)) = coming_at _ _ _ _ c.loop-best.best (c.in-Some.field-0-0, node) c.in-Some.is c.loop-best.invariant in
     let row = row_at c.args.nodes c.args.edges.now rows c.as_slice-in-Some.result.now c.index-in-Some.result.now node c.in_ok-rows.ensures
-          (coming_within c.args.nodes c.args.edges.now c.in_ok-steps.steps.items c.args.first c.loop-best.cycle.items c.in-Some.field-0-0 node c.in_ok-steps.ensures coming) c.index-in-Some.ensures c.as_slice-in-Some.ensures in
+    (coming_within c.args.nodes c.args.edges.now c.in_ok-steps.steps.items c.args.first c.loop-best.cycle.items c.in-Some.field-0-0 node c.in_ok-steps.ensures coming) c.index-in-Some.ensures c.as_slice-in-Some.ensures in
     let near : IsNearest c.as_slice-in-Some.result.now c.in_ok-steps.steps.items c.nearest-best-in-Some.result = subst (λ steps. IsNearest c.as_slice-in-Some.result.now steps c.nearest-best-in-Some.result) c.deref-in-Some.ensures.value c.nearest-best-in-Some.ensures in
     subst (λ b. left_of c.nearest-best-in-Some.result < left_of b) (sym c.in-Some.is)
-      (less_left c.args.nodes c.args.edges.now rows c.in_ok-steps.steps.items c.args.first c.loop-best.cycle.items c.as_slice-in-Some.result.now c.in-Some.field-0-0 node c.nearest-best-in-Some.result c.in_ok-rows.ensures c.in_ok-steps.ensures coming c.if-node-first.false row near)
+    (less_left c.args.nodes c.args.edges.now rows c.in_ok-steps.steps.items c.args.first c.loop-best.cycle.items c.as_slice-in-Some.result.now c.in-Some.field-0-0 node c.nearest-best-in-Some.result c.in_ok-rows.ensures c.in_ok-steps.ensures coming c.if-node-first.false row near)
 
 pub loop-best-preserved : goal.loop-best-preserved
 loop-best-preserved c =
@@ -51,6 +51,6 @@ loop-best-preserved c =
     let node = c.in-Some.node in
     let coming : IsComing c.args.edges.now c.in_ok-steps.steps.items c.args.first c.loop-best.cycle.items (Some (c.in-Some.field-0-0, node)) = coming_at _ _ _ _ c.loop-best.best (c.in-Some.field-0-0, node) c.in-Some.is c.loop-best.invariant in
     let row = row_at c.args.nodes c.args.edges.now rows c.as_slice-in-Some.result.now c.index-in-Some.result.now node c.in_ok-rows.ensures
-          (coming_within c.args.nodes c.args.edges.now c.in_ok-steps.steps.items c.args.first c.loop-best.cycle.items c.in-Some.field-0-0 node c.in_ok-steps.ensures coming) c.index-in-Some.ensures c.as_slice-in-Some.ensures in
+    (coming_within c.args.nodes c.args.edges.now c.in_ok-steps.steps.items c.args.first c.loop-best.cycle.items c.in-Some.field-0-0 node c.in_ok-steps.ensures coming) c.index-in-Some.ensures c.as_slice-in-Some.ensures in
     let near : IsNearest c.as_slice-in-Some.result.now c.in_ok-steps.steps.items c.nearest-best-in-Some.result = subst (λ steps. IsNearest c.as_slice-in-Some.result.now steps c.nearest-best-in-Some.result) c.deref-in-Some.ensures.value c.nearest-best-in-Some.ensures in
     more_cycle c.args.nodes c.args.edges.now rows c.in_ok-steps.steps.items c.args.first c.loop-best.cycle.items _ c.as_slice-in-Some.result.now c.in-Some.field-0-0 node c.nearest-best-in-Some.result c.in_ok-rows.ensures c.in_ok-steps.ensures coming c.if-node-first.false row near c.in_ok-push.ensures.items

@@ -12,10 +12,10 @@ loop-node-preserved c =
     let i = c.loop-node.node-index in
     let v = get_or row i 0 in
     subst (λ xs. IsNearest xs steps c.match-steps-node.best) (sym (take_more row i 0 c.loop-node-test.true))
-      (elim c.match-steps-node.branch [
-        in-Some w ↦ subst (λ b. IsNearest (take i row ++ v ∷ []) steps b) (sym w.best-is) (nearest_some (take i row) steps c.loop-node.best v w.in-Some.count w.nearer.result c.loop-node.invariant w.in-Some.is w.nearer.ensures)
+    (elim c.match-steps-node.branch [
+      | in-Some w ↦ subst (λ b. IsNearest (take i row ++ v ∷ []) steps b) (sym w.best-is) (nearest_some (take i row) steps c.loop-node.best v w.in-Some.count w.nearer.result c.loop-node.invariant w.in-Some.is w.nearer.ensures)
       | in_default w ↦ subst (λ b. IsNearest (take i row ++ v ∷ []) steps b) (sym w.best-is) (nearest_none (take i row) steps c.loop-node.best v c.loop-node.invariant w.in_default.is)
-      ])
+    ])
 
 pub returns : goal.returns
 returns c = subst (λ xs. IsNearest xs c.args.steps.now c.loop-node.best) (take_all c.loop-node.node-index c.args.row.now c.loop-node-test.false) c.loop-node.invariant
