@@ -9,3 +9,4 @@ pub mod LevelSteps
 pub mod CycleSteps
 pub mod ShortestCycle
 pub mod NameSteps
+pub mod WholeOrder

@@ -79,15 +79,15 @@ places_more names i name key m after keeps within read same u =
     let grown : take (i + 1) names ≡ front ++ key ∷ [] = take_more names i name within ∙ ap (λ n. front ++ n ∷ []) (sym read ∙ sym same) in
     subst (λ seen. ArePlaces seen after) (sym grown) (record {
       at = λ q p is. elim (got_by (is_at (slice_cmp nat_cmp key) q) key q i p (get (slice_cmp nat_cmp) m q) refl (sym (u.0 q) ∙ is)) [
-          inl old ↦ got_kept front key p q (keeps.at q p old)
+        | inl old ↦ got_kept front key p q (keeps.at q p old)
         | inr new ↦ got_new front key p (length-take-le i names (omega arith) ∙ new.1) ∙ ap Some new.0
-        ];
+      ];
       all = contains_more (λ q. (p : ℕ) × (get (slice_cmp nat_cmp) after q ≡ Some p)) front key
-        (λ q old.
+          (λ q old.
           let was : (p : ℕ) × (get (slice_cmp nat_cmp) m q ≡ Some p) = keeps.all q old in
           let now : (p : ℕ) × (cond (is_at (slice_cmp nat_cmp key) q) (Some i) (get (slice_cmp nat_cmp) m q) ≡ Some p) = stays_got (is_at (slice_cmp nat_cmp key) q) i was.0 (get (slice_cmp nat_cmp) m q) was.1 in
           (now.0, u.0 q ∙ now.1))
-        (i, u.1);
+          (i, u.1);
     })
 
 -- a name that has no place was not seen
@@ -100,7 +100,7 @@ pub distinct_more : (names : List (List ℕ)) (i : ℕ) (name : List ℕ) → Ha
 distinct_more names i name keeps within read fresh =
     let grown : take (i + 1) names ≡ take i names ++ name ∷ [] = take_more names i name within ∙ ap (λ n. take i names ++ n ∷ []) (sym read) in
     subst HasNoRepeat (sym grown)
-      (all_pairs_push (λ a b. a ≢ b) (take i names) name keeps (λ k d lt same. fresh (subst (λ n. Contains (take i names) n) same (Contains-get_or (take i names) k d lt))))
+    (all_pairs_push (λ a b. a ≢ b) (take i names) name keeps (λ k d lt same. fresh (subst (λ n. Contains (take i names) n) same (Contains-get_or (take i names) k d lt))))
 
 seen_by : (o : Option ℕ) → is_some o ≡ true → (p : ℕ) × (o ≡ Some p)
 seen_by None h = let clash : false ≡ true = h in cc
@@ -139,7 +139,7 @@ pub edges_more : (names : List (List ℕ)) (imports : List ImportEdge) (i : ℕ)
     → AreEdges names (take (i + 1) imports) (edges ++ (one.from, to) ∷ [])
 edges_more names imports i one to edges m keeps within read places is =
     subst (λ xs. AreEdges names xs (edges ++ (one.from, to) ∷ [])) (sym (take_more imports i one within ∙ ap (λ x. take i imports ++ x ∷ []) (sym read)))
-      (zip_push (IsEdgeOf names) (take i imports) edges one (one.from, to) keeps (refl, places.at one.to to is))
+    (zip_push (IsEdgeOf names) (take i imports) edges one (one.from, to) keeps (refl, places.at one.to to is))
 
 known_import : (names : List (List ℕ)) (imports : List ImportEdge) (edges : List (ℕ × ℕ)) (other : ImportEdge) → AreEdges names imports edges → Contains imports other → Contains names other.to
 known_import names imports edges other are (k, within, is) =

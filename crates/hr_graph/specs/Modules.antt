@@ -46,14 +46,18 @@ pub record IsReadingOrder (names : List (List ℕ)) (imports : List ImportEdge) 
   pub edges_are : AreEdges names imports edges
   pub in_order : IsOrder (length names) edges order
 
--- the names of the first of the shortest cycles through the first module that lies on one
-pub record IsShownCycle (names : List (List ℕ)) (imports : List ImportEdge) (shown : List (List ℕ)) : Type 0 where
-  pub edges : List (ℕ × ℕ)
-  pub edges_are : AreEdges names imports edges
+-- the names of the first of the shortest cycles through the first node that lies on one
+pub record ShowsCycle (names : List (List ℕ)) (edges : List (ℕ × ℕ)) (shown : List (List ℕ)) : Type 0 where
   pub first : ℕ
   pub rest : List ℕ
   pub cycle : IsFirstCycle edges first rest
   pub shown_is : shown ≡ map (λ place. slice_index_or names place []) (first ∷ rest)
+
+-- the same by the imports
+pub record IsShownCycle (names : List (List ℕ)) (imports : List ImportEdge) (shown : List (List ℕ)) : Type 0 where
+  pub edges : List (ℕ × ℕ)
+  pub edges_are : AreEdges names imports edges
+  pub shows : ShowsCycle names edges shown
 
 -- A repeated name is refused first, then an import of no module, and then a cycle. Want of memory may
 -- come at any time.

@@ -1,4 +1,7 @@
-ghost use Rattle.std.specs.Prelude.{◌≡◌, ◌<◌, ℕ, [], length, map, All, IfOk, IfErr, slice_index_or};
+ghost use Rattle.std.specs.Prelude.{◌≡◌, ◌<◌, ℕ, [], length, map, All, Some, IfOk, IfErr, OnOk, slice_index_or};
+ghost use Rattle.std.specs.BTreeMap.{Updates};
+ghost use Rattle.std.specs.Cmp.Lexicographic.{slice_cmp};
+ghost use Rattle.std.specs.Ordering.{nat_cmp};
 ghost use Rattle.hr_graph.specs.Modules.{HasNoRepeat, ArePlaces, AreEdges, IsRepeatRefused, ShowsRepeat, IsUnknownRefused, ShowsUnknown};
 
 use crate::module_order::{GraphError, ImportEdge};
@@ -17,12 +20,23 @@ pub(crate) fn places(alloc: Global, names: &[Text]) -> Result<BTreeMap<Text, usi
         if places.contains_key(name) {
             return Err(duplicate(name));
         }
-        let key = copy_of(name).map_err(GraphError::Memory)?;
-        places
-            .insert(key, place)
-            .map_err(|_| GraphError::Memory(AllocError))?;
+        let Ok(()) = place_name(&mut places, name, place) else {
+            return Err(GraphError::Memory(AllocError));
+        };
     }
     Ok(places)
+}
+
+fn place_name(
+    places: &mut BTreeMap<Text, usize>,
+    name: &Text,
+    place: usize,
+) -> Result<(), AllocError>
+    ensures { OnOk result (Updates (slice_cmp nat_cmp) places.old places.new name.now (Some place)) }
+{
+    let key = copy_of(name)?;
+    places.insert(key, place)?;
+    Ok(())
 }
 
 fn copy_of(name: &Text) -> Result<Text, AllocError>
@@ -57,9 +71,9 @@ pub(crate) fn edges(
         let Some(to) = places.get(&import.to).copied() else {
             return Err(unknown(import));
         };
-        edges
-            .push((import.from, to))
-            .map_err(|_| GraphError::Memory(AllocError))?;
+        let Ok(()) = edges.push((import.from, to)) else {
+            return Err(GraphError::Memory(AllocError));
+        };
     }
     Ok(edges)
 }
