@@ -1,12 +1,12 @@
 -- A graph without cycles is put in order whole, and the modules' edges are among its nodes.
 use Rattle.std.proofs.Common.{◌≡◌, ◌⊎◌, ◌+◌, ◌<◌, ◌≤◌, ◌++◌, ◌∷◌, ℕ, zero, suc, [], List, Option, Some, None, length, take, map, get_or, arith, sym, ◌∙◌, ap, subst, refl, inl, inr}
-use Rattle.std.specs.Prelude.{Contains, All, slice_get}
+use Rattle.std.specs.Prelude.{Contains, All, slice_get, IfNone}
 use Rattle.std.proofs.lemmas.Bool.{cases_eq, cases_lt}
 use Rattle.std.proofs.lemmas.List.Elements.{Contains-push, Contains-push_cases, Contains-append_left, Contains-append_right, Contains-append_cases, All-cons, All-nil}
 use Rattle.hr_graph.specs.declared.module_order.ImportEdge.{ImportEdge}
 use Rattle.hr_graph.specs.Graph.{IsWithin, IsReady, IsInOrder, IsOrder, Leads, IsFirstCycle}
 use Rattle.hr_graph.specs.Cycle.{IsNumbered, IsLeastThrough}
-use Rattle.hr_graph.specs.Modules.{AreEdges, IsEdgeOf, ShowsCycle}
+use Rattle.hr_graph.specs.Modules.{AreEdges, IsEdgeOf, ShowsCycle, HasNoRepeat, IsReadingOrder}
 use Rattle.hr_graph.proofs.Members.{contains_none}
 use Rattle.hr_graph.proofs.LevelSteps.{ends_below}
 
@@ -83,3 +83,17 @@ cycle_shown names edges first (node ∷ rest) shown least is = record {
   cycle = least.1;
   shown_is = is ∙ ap (λ m. map (λ place. get_or names place []) (m ∷ rest)) least.0;
 }
+
+pub reading_order : (names : List (List ℕ)) (imports : List ImportEdge) (edges given again : List (ℕ × ℕ)) (cycle : Option (List (List ℕ))) (order : List ℕ)
+    → HasNoRepeat names → All (λ one. one.from < length names) imports → AreEdges names imports edges → given ≡ edges → again ≡ edges
+    → IfNone cycle (IsNumbered given) → cycle ≡ None → IsInOrder (length names) again order → ((node : ℕ) → IsReady (length names) again order node → ⊥)
+    → IsReadingOrder names imports order
+reading_order names imports edges given again cycle order distinct ends are same other none is each all =
+    let numbered : IsNumbered edges = subst IsNumbered same (subst (λ o. IfNone o (IsNumbered given)) is none) in
+    record {
+      distinct = distinct;
+      edges = edges;
+      edges_are = are;
+      in_order = whole_order (length names) edges order (edges_within names imports edges ends are) numbered
+        (subst (λ es. IsInOrder (length names) es order) other each) (subst (λ es. (node : ℕ) → IsReady (length names) es order node → ⊥) other all);
+    }
