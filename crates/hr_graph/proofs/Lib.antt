@@ -10,3 +10,4 @@ pub mod CycleSteps
 pub mod ShortestCycle
 pub mod NameSteps
 pub mod WholeOrder
+pub mod GroupSteps

@@ -95,5 +95,5 @@ reading_order names imports edges given again cycle order distinct ends are same
       edges = edges;
       edges_are = are;
       in_order = whole_order (length names) edges order (edges_within names imports edges ends are) numbered
-        (subst (λ es. IsInOrder (length names) es order) other each) (subst (λ es. (node : ℕ) → IsReady (length names) es order node → ⊥) other all);
+          (subst (λ es. IsInOrder (length names) es order) other each) (subst (λ es. (node : ℕ) → IsReady (length names) es order node → ⊥) other all);
     }

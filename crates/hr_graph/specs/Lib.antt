@@ -5,3 +5,4 @@ pub mod Ready
 pub mod Levels
 pub mod Cycle
 pub mod Modules
+pub mod Groups

@@ -1,3 +1,7 @@
+ghost use Rattle.std.specs.Prelude.{◌≡◌, ◌<◌, ℕ, Some, None, length, All, IfOk, slice_index_or, slice_set, unwrap_or, vec_len};
+ghost use Rattle.hr_graph.specs.Graph.{IsWithin};
+ghost use Rattle.hr_graph.specs.Groups.{AreLeasts, AreLinks, AreMembers};
+
 use crate::ready::first_ready;
 use crate::rows::{append, empty_rows};
 use crate::strong::labels;
@@ -5,18 +9,27 @@ use hr_base::Seq;
 use std::alloc::{AllocError, Global};
 use std::mem;
 
+/// The first node with this label, which is this one if there was none before.
+fn first_of(first: &mut [Option<usize>], label: usize, node: usize) -> usize
+    requires { label < length first.old }
+    ensures least { result ≡ unwrap_or (slice_index_or first.old label None) node }
+    ensures after { first.new ≡ slice_set first.old label (Some result) }
+{
+    let least = first[label].unwrap_or(node);
+    first[label] = Some(least);
+    least
+}
+
 /// For each node the least node that has its label.
-fn leasts(alloc: Global, labels: &[usize]) -> Result<Vec<usize>, AllocError> {
-    let mut first: Vec<Option<usize>> = vec![in alloc; None; labels.len()]?;
+fn leasts(alloc: Global, labels: &[usize]) -> Result<Vec<usize>, AllocError>
+    requires { All (λ label. label < length labels.now) labels.now }
+    ensures { IfOk result (λ leasts. AreLeasts labels.now leasts.items) }
+{
+    let mut first = vec![in alloc; None; labels.len()]?;
     let mut leasts = Vec::new(alloc);
     for (node, label) in labels.iter().enumerate() {
-        match first[*label] {
-            Some(least) => leasts.push(least)?,
-            None => {
-                first[*label] = Some(node);
-                leasts.push(node)?;
-            }
-        }
+        let least = first_of(&mut first, *label, node);
+        leasts.push(least)?;
     }
     Ok(leasts)
 }
@@ -26,18 +39,25 @@ fn between(
     alloc: Global,
     edges: &[(usize, usize)],
     leasts: &[usize],
-) -> Result<Vec<(usize, usize)>, AllocError> {
-    let mut joined = Vec::new(alloc);
+) -> Result<Vec<(usize, usize)>, AllocError>
+    requires { IsWithin (length leasts.now) edges.now }
+    ensures { IfOk result (λ links. AreLinks edges.now leasts.now links.items) }
+{
+    let mut links = Vec::new(alloc);
     for (from, to) in edges {
         if leasts[*from] != leasts[*to] {
-            joined.push((leasts[*from], leasts[*to]))?;
+            links.push((leasts[*from], leasts[*to]))?;
         }
     }
-    Ok(joined)
+    Ok(links)
 }
 
 /// For each node the nodes of which it is the least one, ascending.
-fn members(alloc: Global, leasts: &[usize]) -> Result<Vec<Seq<usize>>, AllocError> {
+fn members(alloc: Global, leasts: &[usize]) -> Result<Vec<Seq<usize>>, AllocError>
+    requires { All (λ least. least < length leasts.now) leasts.now }
+    ensures length { IfOk result (λ rows. vec_len rows ≡ length leasts.now) }
+    ensures members { IfOk result (λ rows. AreMembers leasts.now rows.items) }
+{
     let mut rows = empty_rows(alloc, leasts.len())?;
     for (node, least) in leasts.iter().enumerate() {
         append(&mut rows[*least], node)?;
@@ -51,7 +71,9 @@ pub fn components(
     alloc: Global,
     nodes: usize,
     edges: &[(usize, usize)],
-) -> Result<Seq<Seq<usize>>, AllocError> {
+) -> Result<Seq<Seq<usize>>, AllocError>
+    requires { IsWithin nodes edges.now }
+{
     let labels = labels(alloc, nodes, edges)?;
     let leasts = leasts(alloc, &labels)?;
     let links = between(alloc, edges, &leasts)?;

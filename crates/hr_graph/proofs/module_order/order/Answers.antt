@@ -14,5 +14,5 @@ first_ready-requires c = subst (IsWithin (length c.args.names.now)) (sym c.deref
 pub returns-clause-order : goal.returns-clause-order
 returns-clause-order c =
     reading_order c.args.names.now c.args.imports.now c.in_ok-edges.edges.items c.deref.result.now c.deref-2.result.now c.in-Ok.cycle c.in-Ok-first_ready.order.items
-      c.in_ok-places.ensures.distinct c.requires c.in_ok-edges.ensures.edges c.deref.ensures.value c.deref-2.ensures.value
-      c.in-Ok.ensures.none c.in_default-cycle.is c.in-Ok-first_ready.ensures.order c.in-Ok-first_ready.ensures.all
+    c.in_ok-places.ensures.distinct c.requires c.in_ok-edges.ensures.edges c.deref.ensures.value c.deref-2.ensures.value
+    c.in-Ok.ensures.none c.in_default-cycle.is c.in-Ok-first_ready.ensures.order c.in-Ok-first_ready.ensures.all
