@@ -1,4 +1,4 @@
-ghost use Rattle.std.specs.Prelude.{◌≡◌, ◌<◌, ℕ, Some, None, length, All, IfOk, slice_index_or, slice_set, unwrap_or, vec_len};
+ghost use Rattle.std.specs.Prelude.{◌≡◌, ◌<◌, ℕ, Some, None, length, replicate, All, IfOk, slice_index_or, slice_set, unwrap_or, vec_len};
 ghost use Rattle.hr_graph.specs.Graph.{IsWithin};
 ghost use Rattle.hr_graph.specs.Groups.{AreLeasts, AreLinks, AreMembers};
 
@@ -10,14 +10,22 @@ use std::alloc::{AllocError, Global};
 use std::mem;
 
 /// The first node with this label, which is this one if there was none before.
-fn first_of(first: &mut [Option<usize>], label: usize, node: usize) -> usize
-    requires { label < length first.old }
-    ensures least { result ≡ unwrap_or (slice_index_or first.old label None) node }
-    ensures after { first.new ≡ slice_set first.old label (Some result) }
+fn first_of(first: &mut Vec<Option<usize>>, label: usize, node: usize) -> usize
+    requires { label < vec_len first.old }
+    ensures least { result ≡ unwrap_or (slice_index_or first.old.items label None) node }
+    ensures after { first.new.items ≡ slice_set first.old.items label (Some result) }
 {
     let least = first[label].unwrap_or(node);
     first[label] = Some(least);
     least
+}
+
+/// No node is known for any label.
+fn no_first(alloc: Global, labels: usize) -> Result<Vec<Option<usize>>, AllocError>
+    ensures { IfOk result (λ first. first.items ≡ replicate labels None) }
+{
+    let first = vec![in alloc; None; labels]?;
+    Ok(first)
 }
 
 /// For each node the least node that has its label.
@@ -25,7 +33,7 @@ fn leasts(alloc: Global, labels: &[usize]) -> Result<Vec<usize>, AllocError>
     requires { All (λ label. label < length labels.now) labels.now }
     ensures { IfOk result (λ leasts. AreLeasts labels.now leasts.items) }
 {
-    let mut first = vec![in alloc; None; labels.len()]?;
+    let mut first = no_first(alloc, labels.len())?;
     let mut leasts = Vec::new(alloc);
     for (node, label) in labels.iter().enumerate() {
         let least = first_of(&mut first, *label, node);
