@@ -52,7 +52,7 @@ equal_no numbers edges (Some first) e differ keeps = (
 -- ---- by labels
 
 -- a way leads to no greater label
-labels_fall : (nodes : ℕ) (edges : List (ℕ × ℕ)) (labels : List ℕ) (u w : ℕ) → AreLabels nodes edges labels → Reaches edges u w → get_or labels w 0 ≤ get_or labels u 0
+pub labels_fall : (nodes : ℕ) (edges : List (ℕ × ℕ)) (labels : List ℕ) (u w : ℕ) → AreLabels nodes edges labels → Reaches edges u w → get_or labels w 0 ≤ get_or labels u 0
 labels_fall nodes edges labels u w are (here _) = omega arith
 labels_fall nodes edges labels u w are (along _ v _ edge rest) = let le : get_or labels v 0 ≤ get_or labels u 0 = are.falls u v edge in omega (arith, labels_fall nodes edges labels v w are rest)
 

@@ -11,3 +11,4 @@ pub mod ShortestCycle
 pub mod NameSteps
 pub mod WholeOrder
 pub mod GroupSteps
+pub mod ComponentOrder
