@@ -1,5 +1,5 @@
 -- Components by their least nodes.
-use Rattle.std.specs.Prelude.{◌≡◌, ◌≢◌, ◌+◌, ◌<◌, ◌≤◌, ℕ, List, [], Option, Some, None, length, slice_index, slice_index_or, slice_set, unwrap_or, Contains}
+use Rattle.std.specs.Prelude.{◌≡◌, ◌≢◌, ◌+◌, ◌<◌, ◌≤◌, ℕ, List, [], ◌∷◌, Option, Some, None, length, slice_index, slice_index_or, slice_set, unwrap_or, Contains}
 use Rattle.std.specs.List.Sorted.{IsStrictlyIncreasing}
 
 -- the least node with the label of v
@@ -23,3 +23,13 @@ pub record AreMembers (leasts : List ℕ) (rows : List (List ℕ)) : Type 0 wher
   pub sound : (a v : ℕ) → Contains (slice_index_or rows a []) v → (v < length leasts) × (slice_index leasts v ≡ a)
   pub complete : (v : ℕ) → v < length leasts → Contains (slice_index_or rows (slice_index leasts v) []) v
   pub ascending : (a : ℕ) → IsStrictlyIncreasing (slice_index_or rows a [])
+
+-- a row is put before the others, unless it is empty
+unfoldable pub add_row : List ℕ → List (List ℕ) → List (List ℕ)
+add_row [] rest = rest
+add_row (v ∷ row) rest = (v ∷ row) ∷ rest
+
+-- the rows of the nodes in turn, but for empty ones
+unfoldable pub groups_of : List (List ℕ) → List ℕ → List (List ℕ)
+groups_of rows [] = []
+groups_of rows (a ∷ nodes) = add_row (slice_index_or rows a []) (groups_of rows nodes)

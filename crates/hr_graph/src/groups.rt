@@ -1,13 +1,12 @@
 ghost use Rattle.std.specs.Prelude.{◌≡◌, ◌<◌, ℕ, Some, None, length, replicate, All, IfOk, slice_index_or, slice_set, unwrap_or, vec_len};
-ghost use Rattle.hr_graph.specs.Graph.{IsWithin};
-ghost use Rattle.hr_graph.specs.Groups.{AreLeasts, AreLinks, AreMembers};
+ghost use Rattle.hr_graph.specs.Graph.{AreComponents, IsWithin};
+ghost use Rattle.hr_graph.specs.Groups.{AreLeasts, AreLinks, AreMembers, groups_of};
 
 use crate::ready::first_ready;
 use crate::rows::{append, empty_rows};
 use crate::strong::labels;
 use hr_base::Seq;
 use std::alloc::{AllocError, Global};
-use std::mem;
 
 /// The first node with this label, which is this one if there was none before.
 fn first_of(first: &mut Vec<Option<usize>>, label: usize, node: usize) -> usize
@@ -73,6 +72,27 @@ fn members(alloc: Global, leasts: &[usize]) -> Result<Vec<Seq<usize>>, AllocErro
     Ok(rows)
 }
 
+/// The rows of the nodes in turn, but for empty ones.
+fn filled_rows(
+    alloc: Global,
+    rows: &[Seq<usize>],
+    order: &[usize],
+) -> Result<Seq<Seq<usize>>, AllocError>
+    requires { All (λ node. node < length rows.now) order.now }
+    ensures { IfOk result (λ groups. groups ≡ groups_of rows.now order.now) }
+{
+    let mut list = Vec::new(alloc);
+    for node in order {
+        let row = rows[*node].as_slice();
+        if !row.is_empty() {
+            list.push(Seq {
+                list: Vec::from_slice(alloc, row)?,
+            })?;
+        }
+    }
+    Ok(Seq { list })
+}
+
 /// The strong components of a graph: each after those that it points to, each ascending, the one
 /// with the least node first where a choice is left.
 pub fn components(
@@ -81,23 +101,12 @@ pub fn components(
     edges: &[(usize, usize)],
 ) -> Result<Seq<Seq<usize>>, AllocError>
     requires { IsWithin nodes edges.now }
+    ensures { IfOk result (λ components. AreComponents nodes edges.now components) }
 {
     let labels = labels(alloc, nodes, edges)?;
     let leasts = leasts(alloc, &labels)?;
     let links = between(alloc, edges, &leasts)?;
     let order = first_ready(alloc, nodes, &links)?;
-    let mut rows = members(alloc, &leasts)?;
-    let mut list = Vec::new(alloc);
-    for node in order.as_slice() {
-        if !rows[*node].is_empty() {
-            let row = mem::replace(
-                &mut rows[*node],
-                Seq {
-                    list: Vec::new(alloc),
-                },
-            );
-            list.push(row)?;
-        }
-    }
-    Ok(Seq { list })
+    let rows = members(alloc, &leasts)?;
+    filled_rows(alloc, &rows, &order)
 }

@@ -9,7 +9,6 @@ mod module_names;
 mod module_order;
 mod ready;
 mod rows;
-mod scratch;
 mod strong;
 
 pub use groups::components;
