@@ -320,7 +320,7 @@ links_below n edges labels given_labels leasts given_leasts links ends are a lea
     let own : AreLeasts labels leasts = subst (λ ls. AreLeasts ls leasts) a least in
     let l : AreLinks edges leasts links = subst (λ ls. AreLinks edges ls links) b link in
     let s : ((get_or links k d).0 ≢ (get_or links k d).1) × ((x : ℕ) × (y : ℕ) × Contains edges (x, y) × (get_or leasts x 0 ≡ (get_or links k d).0) × (get_or leasts y 0 ≡ (get_or links k d).1))
-          = l.sound (get_or links k d).0 (get_or links k d).1 (Contains-get_or links k d k_in) in
+    = l.sound (get_or links k d).0 (get_or links k d).1 (Contains-get_or links k d k_in) in
     let lx : s.1.0 < n = (ends_below n edges s.1.0 s.1.1 ends s.1.2).0 in
     let ly : s.1.1 < n = (ends_below n edges s.1.0 s.1.1 ends s.1.2).1 in
     let x : get_or leasts s.1.0 0 ≤ s.1.0 = (own.each s.1.0 (omega (arith, are.long, lx))).below in
@@ -331,8 +331,8 @@ pub whole_links : (n : ℕ) (edges : List (ℕ × ℕ)) (labels leasts : List �
     → IsCondensed n edges labels leasts links rows → given ≡ links → IsInOrder n given order → ((node : ℕ) → IsReady n given order node → ⊥) → AreComponents n edges (groups_of rows order)
 whole_links n edges labels leasts links given rows order g is each all =
     groups_are n edges labels leasts links rows g order
-      (whole_order n links order (links_below n edges labels labels leasts leasts links g.ends g.labels_are refl g.leasts_are refl g.links_are) (links_numbered n edges labels leasts links rows g)
-        (subst (λ es. IsInOrder n es order) is each) (subst (λ es. (node : ℕ) → IsReady n es order node → ⊥) is all))
+    (whole_order n links order (links_below n edges labels labels leasts leasts links g.ends g.labels_are refl g.leasts_are refl g.links_are) (links_numbered n edges labels leasts links rows g)
+    (subst (λ es. IsInOrder n es order) is each) (subst (λ es. (node : ℕ) → IsReady n es order node → ⊥) is all))
 
 pub is_zero : (n : ℕ) → true ≡ (n == 0) → n ≡ 0
 is_zero n is = grind (arith, nat_tests)

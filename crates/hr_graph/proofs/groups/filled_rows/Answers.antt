@@ -17,13 +17,13 @@ loop-node-preserved c =
     let row = c.as_slice-row.result.now in
     let is : row ≡ get_or rows (get_or order i 0) [] = c.as_slice-row.ensures ∙ get_or_read rows (get_or order i 0) c.index-rows-node.result (c.requires i 0 c.loop-node-test.true) c.index-rows-node.is [] in
     elim c.if-not-is_empty.branch [
-      then-not-is_empty+in_ok-from_slice+in_ok-push w ↦
-        ap (λ l. l.items) w.list-is ∙ w.in_ok-push.ensures.items
-        ∙ ap (λ l. l ++ w.in_ok-from_slice.field-0.items ∷ []) c.loop-node.invariant
-        ∙ ap (λ r. groups_of rows (take i order) ++ r ∷ []) (w.in_ok-from_slice.ensures.items ∙ is)
-        ∙ groups_some rows order i c.loop-node-test.true (λ none. not_zero (length row) w.if-not-is_empty.ensures (ap length is ∙ none))
-    | else-not-is_empty w ↦
-        ap (λ l. l.items) w.list-is ∙ c.loop-node.invariant ∙ groups_none rows order i c.loop-node-test.true (ap length (sym is) ∙ is_zero (length row) w.if-not-is_empty.ensures)
+      | then-not-is_empty+in_ok-from_slice+in_ok-push w ↦
+          ap (λ l. l.items) w.list-is ∙ w.in_ok-push.ensures.items
+          ∙ ap (λ l. l ++ w.in_ok-from_slice.field-0.items ∷ []) c.loop-node.invariant
+          ∙ ap (λ r. groups_of rows (take i order) ++ r ∷ []) (w.in_ok-from_slice.ensures.items ∙ is)
+          ∙ groups_some rows order i c.loop-node-test.true (λ none. not_zero (length row) w.if-not-is_empty.ensures (ap length is ∙ none))
+      | else-not-is_empty w ↦
+          ap (λ l. l.items) w.list-is ∙ c.loop-node.invariant ∙ groups_none rows order i c.loop-node-test.true (ap length (sym is) ∙ is_zero (length row) w.if-not-is_empty.ensures)
     ]
 
 pub returns : goal.returns
