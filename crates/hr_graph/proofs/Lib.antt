@@ -1,0 +1,14 @@
+pub mod Members
+pub mod RowLemmas
+pub mod StrongSteps
+pub mod ShutSteps
+pub mod FollowSteps
+pub mod LabelSteps
+pub mod AgendaSteps
+pub mod LevelSteps
+pub mod CycleSteps
+pub mod ShortestCycle
+pub mod NameSteps
+pub mod WholeOrder
+pub mod GroupSteps
+pub mod ComponentOrder
