@@ -127,7 +127,7 @@ module _ (scope : TypeScope) where
       by_name q (Some name) found has =
           subst (λ (w : Written). Reads scope w.grade (lexemes_of w.pieces) (Con e ts)) (sym (written_applied scope (Con e ts) e ts refl q))
           (subst (λ o. Reads scope (spec.applied_grade (map (written scope) ts)) (lexemes_of (spec.name_pieces o ++ spec.arguments (map (written scope) ts))) (Con e ts)) (sym found)
-            (applied_reads e name ts q found claims n.1 f.1))
+          (applied_reads e name ts q found claims n.1 f.1))
 
       by_brackets : (o : Option Brackets) → brackets_of e ≡ o → (is_some o || is_some (spec.name_for e scope.names)) ≡ true → spec.fits_arity e (length (map has_arities ts)) o ≡ true
           → Reads scope (written scope (Con e ts)).grade (lexemes_of (written scope (Con e ts)).pieces) (Con e ts)
@@ -136,7 +136,7 @@ module _ (scope : TypeScope) where
           let count : length ts ≡ spec.arity_by (length e.text) b = sym (length-map ts has_arities) ∙ eqb-true _ _ arity in
           subst (λ (w : Written). Reads scope w.grade (lexemes_of w.pieces) (Con e ts)) (sym (written_enclosed scope (Con e ts) e ts b refl q))
           (subst (λ xs. Reads scope 2 (spec.opening b ∷ xs) (Con e ts)) (sym (lexemes_of-append (spec.listed (map (written scope) ts)) (lexeme (spec.closing b) ∷ [])))
-            (enclosed e b _ ts q count (listed_reads ts claims n.1 f.1)))
+          (enclosed e b _ ts q count (listed_reads ts claims n.1 f.1)))
 
   every_reads : (t : Mono) → Claim t
   every_reads = every_type Claim var_reads con_reads fun_reads

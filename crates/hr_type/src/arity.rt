@@ -49,13 +49,7 @@ fn arity_by(size: usize, brackets: Brackets) -> usize
 {
     match brackets {
         Brackets::Square => 1,
-        Brackets::Round => {
-            if size == 2 {
-                0
-            } else {
-                size.saturating_sub(1)
-            }
-        }
+        Brackets::Round => { if size == 2 { 0 } else { size.saturating_sub(1) } }
     }
 }
 

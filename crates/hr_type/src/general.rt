@@ -37,7 +37,13 @@ fn matches(
                 if !is_same_entity(entity, other) {
                     return Ok(false);
                 }
-                match_all(alloc, bound, chosen, generals.as_slice(), specials.as_slice())
+                match_all(
+                    alloc,
+                    bound,
+                    chosen,
+                    generals.as_slice(),
+                    specials.as_slice(),
+                )
             }
             Mono::Fun(_, _) => Ok(false),
         },

@@ -10,11 +10,7 @@ use std::alloc::{AllocError, Global};
 /// The text of a type in a scope, None where a constructor that is no syntax has no name there or
 /// a variable no text. In the type `->` stands as a function type alone, and lists, tuples and ()
 /// have their numbers of arguments.
-pub fn print_in(
-    alloc: Global,
-    ty: &Mono,
-    scope: &TypeScope,
-) -> Result<Option<Vec<u8>>, AllocError>
+pub fn print_in(alloc: Global, ty: &Mono, scope: &TypeScope) -> Result<Option<Vec<u8>>, AllocError>
     requires { IsTrue (has_arities ty.now) }
     ensures { IfOk result (λ printed. MatchOption printed
         (spellable scope.now ty.now ≡ false) (λ text. Spells scope.now ty.now text.items)) }

@@ -90,7 +90,11 @@ fn scope(alloc: Global) -> Result<TypeScope, AllocError> {
 #[test]
 fn copies_are_the_same_type(rt: HostRuntime) -> Result<(), Fail> {
     let alloc = rt.alloc();
-    let ty = fun(alloc, maybe(alloc, Mono::Var(0))?, list(alloc, int(alloc)?)?)?;
+    let ty = fun(
+        alloc,
+        maybe(alloc, Mono::Var(0))?,
+        list(alloc, int(alloc)?)?,
+    )?;
     assert!(rt; ty.copied(alloc)?.is_same(&ty));
     assert!(rt; !int(alloc)?.is_same(&maybe(alloc, int(alloc)?)?));
     Ok(())
@@ -110,11 +114,7 @@ fn an_instance_gives_each_bound_variable_one_type(rt: HostRuntime) -> Result<(),
         fun(alloc, list_of, Mono::Var(1))?,
     )?;
     assert!(rt; instance(alloc, &general, &same)?);
-    let differs = fun(
-        alloc,
-        int(alloc)?,
-        fun(alloc, Mono::Var(0), Mono::Var(1))?,
-    )?;
+    let differs = fun(alloc, int(alloc)?, fun(alloc, Mono::Var(0), Mono::Var(1))?)?;
     assert!(rt; !instance(alloc, &general, &differs)?);
     let free = fun(alloc, int(alloc)?, fun(alloc, int(alloc)?, int(alloc)?)?)?;
     assert!(rt; !instance(alloc, &general, &free)?);
@@ -163,7 +163,14 @@ fn brackets_hold_their_arguments_without_parentheses(rt: HostRuntime) -> Result<
     let pairs = list(alloc, pair(alloc, Mono::Var(2), int(alloc)?)?)?;
     assert!(rt; is_written(&rt, alloc, &pairs, Some(b"[(c, Int)]"))?);
     let unit = syntax(alloc, b"()", none(alloc))?;
-    assert!(rt; is_written(&rt, alloc, &fun(alloc, unit, int(alloc)?)?, Some(b"() -> Int"))?);
+    assert!(rt;
+        is_written(
+            &rt,
+            alloc,
+            &fun(alloc, unit, int(alloc)?)?,
+            Some(b"() -> Int")
+        )?
+    );
     Ok(())
 }
 

@@ -103,11 +103,7 @@ fn write_within(
 }
 
 #[cycle(write)]
-fn write_arguments(
-    scope: &TypeScope,
-    types: &[Mono],
-    out: &mut Vec<u8>,
-) -> Result<(), AllocError>
+fn write_arguments(scope: &TypeScope, types: &[Mono], out: &mut Vec<u8>) -> Result<(), AllocError>
     ensures { OnOk result (out.new.items ≡ out.old.items ++ spec.bytes_of (spec.arguments (map (spec.written scope.now) types.now))) }
 {
     for ty in types {

@@ -31,7 +31,7 @@ pub matches-returns-else-not-is_same_entity : goal.matches-returns-else-not-is_s
 matches-returns-else-not-is_same_entity t c =
     settled_same c.match_all.result _ _ _ _
     (λ by e. con_made (bounded c.args.bound by) _ _ _ _ _ _ c.in-Con.is c.in-Con-special.is (c.is_same_entity.ensures.exact.0 c.if-not-is_same_entity.false)
-      (ap (map (replaced (bounded c.args.bound by))) (sym c.as_slice.ensures) ∙ e ∙ c.as_slice-in-Con-special.ensures))
+    (ap (map (replaced (bounded c.args.bound by))) (sym c.as_slice.ensures) ∙ e ∙ c.as_slice-in-Con-special.ensures))
     (λ by r. ap (map (replaced (bounded c.args.bound by))) c.as_slice.ensures ∙ (con_parts (bounded c.args.bound by) _ _ _ _ _ _ c.in-Con.is c.in-Con-special.is r).1 ∙ sym c.as_slice-in-Con-special.ensures)
     c.match_all.ensures
 
@@ -44,10 +44,12 @@ pub matches-returns-else-not-branch : goal.matches-returns-else-not-branch
 matches-returns-else-not-branch t c =
     settled_both c.matches-in-Fun-special-2.result _ _ _ _ _ _
     (λ by p q. fun_made (bounded c.args.bound by) _ _ _ _ _ _ c.in-Fun.is c.in-Fun-special-2.is
-      (ap (replaced (bounded c.args.bound by)) (sym c.get.ensures) ∙ p ∙ c.get-in-Fun-special-2.ensures)
-      (ap (replaced (bounded c.args.bound by)) (sym c.get-in-Fun-special-2-2.ensures) ∙ q ∙ c.get-in-Fun-special-2-3.ensures))
-    (λ by r. (ap (replaced (bounded c.args.bound by)) c.get.ensures ∙ (fun_parts (bounded c.args.bound by) _ _ _ _ _ _ c.in-Fun.is c.in-Fun-special-2.is r).0 ∙ sym c.get-in-Fun-special-2.ensures,
-      ap (replaced (bounded c.args.bound by)) c.get-in-Fun-special-2-2.ensures ∙ (fun_parts (bounded c.args.bound by) _ _ _ _ _ _ c.in-Fun.is c.in-Fun-special-2.is r).1 ∙ sym c.get-in-Fun-special-2-3.ensures))
+    (ap (replaced (bounded c.args.bound by)) (sym c.get.ensures) ∙ p ∙ c.get-in-Fun-special-2.ensures)
+    (ap (replaced (bounded c.args.bound by)) (sym c.get-in-Fun-special-2-2.ensures) ∙ q ∙ c.get-in-Fun-special-2-3.ensures))
+    (λ by r. (
+      ap (replaced (bounded c.args.bound by)) c.get.ensures ∙ (fun_parts (bounded c.args.bound by) _ _ _ _ _ _ c.in-Fun.is c.in-Fun-special-2.is r).0 ∙ sym c.get-in-Fun-special-2.ensures,
+      ap (replaced (bounded c.args.bound by)) c.get-in-Fun-special-2-2.ensures ∙ (fun_parts (bounded c.args.bound by) _ _ _ _ _ _ c.in-Fun.is c.in-Fun-special-2.is r).1 ∙ sym c.get-in-Fun-special-2-3.ensures,
+    ))
     (narrowed _ _ _ _ c.if-not-branch.false c.in_ok-matches-in-Fun-special-2.ensures) c.matches-in-Fun-special-2.ensures
 
 pub match_all-returns-then-not-branch : goal.match_all-returns-then-not-branch

@@ -19,5 +19,5 @@ returns c =
     let missing : first_for c.args.variable chosen ≡ None = sym (ap (first_for c.args.variable) c.as_slice.ensures.value) ∙ sym c.in_default.ensures in
     subst (λ items. Narrows chosen items (λ by. bounded c.args.bound by c.args.variable ≡ c.args.special.now)) (sym c.in_ok-push.ensures.items)
     (narrows_choice c.args.variable c.in_ok-copied.field-0 chosen _ missing
-      (λ by p. sym (bounded_below by c.args.variable c.args.bound c.if-variable-bound.false) ∙ p ∙ sym c.in_ok-copied.ensures)
-      (λ by e. bounded_below by c.args.variable c.args.bound c.if-variable-bound.false ∙ e ∙ c.in_ok-copied.ensures))
+    (λ by p. sym (bounded_below by c.args.variable c.args.bound c.if-variable-bound.false) ∙ p ∙ sym c.in_ok-copied.ensures)
+    (λ by e. bounded_below by c.args.variable c.args.bound c.if-variable-bound.false ∙ e ∙ c.in_ok-copied.ensures))
