@@ -1,4 +1,5 @@
 pub mod LexemeReader
+pub mod Marks
 pub mod NameReader
 pub mod NumberReader
 pub mod QuoteReader

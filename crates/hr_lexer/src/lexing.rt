@@ -1,8 +1,10 @@
 //! The lexer's one call.
-ghost use Rattle.std.specs.Prelude.{◌≡◌, ◌<◌, ◌≤◌, length, IfErr, IfOk, IfSome};
-ghost use Rattle.std.specs.Str.{encode_utf8_all};
-ghost use Rattle.hr_rules.specs.Lexemes.{LexesText};
-ghost use Rattle.hr_lexer.specs.Refusals.{IsRefusal};
+ghost use Rattle.std.specs.Prelude.{◌≡◌, ◌<◌, ◌≤◌, ◌++◌, ◌∷◌, [], true, length, IfErr, IfOk, IfSome};
+ghost use Rattle.std.specs.Str.{all_scalars, encode_utf8_all};
+ghost use Rattle.hr_rules.specs.Lexemes.{class_of, is_piece, bars, led_by, LexesText};
+ghost use Rattle.hr_rules.specs.Lexing.{Lexes};
+ghost use Rattle.hr_lexer.specs.Refusals.{cause_of, IsHalt, IsRefusal};
+ghost use Rattle.hr_lexer.specs.Marks.{mark_count};
 ghost use Rattle.hr_lexer.specs.LexemeReader.{lexeme_at, special_at};
 
 use crate::LexError;
@@ -40,13 +42,16 @@ pub fn lex(alloc: Global, bytes: &[u8]) -> Result<Items, LexError>
         characters: characters.as_slice(),
         bytes,
     };
-    let (mark, rest) = split(source, mark_len(source.characters));
+    let (mark, rest) = split(source, mark_count(source.characters));
     let items = read_items(alloc, bytes.len(), rest)?;
     led_by(alloc, mark, items).map_err(LexError::Memory)
 }
 
 /// 1 where a byte order mark begins the text, else 0.
-fn mark_len(text: &[char]) -> usize {
+fn mark_count(text: &[char]) -> usize
+    ensures value { result ≡ mark_count text.now }
+    ensures within { result ≤ length text.now }
+{
     match text {
         ['\u{FEFF}', ..] => 1,
         _ => 0,
@@ -54,7 +59,9 @@ fn mark_len(text: &[char]) -> usize {
 }
 
 /// The items with these bytes put in front of the first trivia, or of the tail.
-fn led_by(alloc: Global, mark: &[u8], mut items: Items) -> Result<Items, AllocError> {
+fn led_by(alloc: Global, mark: &[u8], mut items: Items) -> Result<Items, AllocError>
+    ensures { IfOk result (λ led. led ≡ led_by mark.now items.list items.tail) }
+{
     match items.list.list.first_mut() {
         Some(first) => first.trivia = with_front(alloc, mark, &first.trivia)?,
         None => items.tail = with_front(alloc, mark, &items.tail)?,
@@ -62,7 +69,9 @@ fn led_by(alloc: Global, mark: &[u8], mut items: Items) -> Result<Items, AllocEr
     Ok(items)
 }
 
-fn with_front(alloc: Global, front: &[u8], text: &Text) -> Result<Text, AllocError> {
+fn with_front(alloc: Global, front: &[u8], text: &Text) -> Result<Text, AllocError>
+    ensures { IfOk result (λ whole. whole ≡ front.now ++ text.now) }
+{
     let mut bytes = Vec::from_slice(alloc, front)?;
     bytes.extend_from_slice(text.as_slice())?;
     Ok(Text { bytes })
@@ -71,7 +80,10 @@ fn with_front(alloc: Global, front: &[u8], text: &Text) -> Result<Text, AllocErr
 /// The items of what is left of a text of this many bytes.
 fn read_items(alloc: Global, len: usize, source: Source) -> Result<Items, LexError>
     requires spelled { source.bytes.now ≡ encode_utf8_all source.characters.now }
+    requires scalars { all_scalars source.characters.now ≡ true }
     requires len { length source.bytes.now ≤ len }
+    ensures read { IfOk result (λ items. Lexes class_of is_piece bars source.entry.bytes.now items.list items.tail) }
+    ensures refused { IfErr result (λ error. IsHalt len source.entry.bytes.now error) }
 {
     let mut list = Vec::new(alloc);
     let mut left = source;
@@ -100,7 +112,9 @@ fn push_item(
     trivia: &[u8],
     class: Class,
     text: &[u8],
-) -> Result<(), AllocError> {
+) -> Result<(), AllocError>
+    ensures { IfOk result (λ u. list.new.items ≡ list.old.items ++ (record { trivia = trivia.now; lexeme = record { class = class; text = text.now } } ∷ [])) }
+{
     let lexeme = Lexeme {
         class,
         text: Text::from_slice(alloc, text)?,
@@ -144,10 +158,17 @@ fn special_at(first: char, rest: &[char]) -> Option<Taken>
 }
 
 /// Why nothing fits at the place, where this text is left.
-fn cause_at(text: &[char], place: usize) -> LexError {
-    match text {
-        ['{', '-', ..] => LexError::OpenComment { place },
-        [c, ..] if c.is_ascii_digit() => LexError::LiteralTooWide { place },
+fn cause_at(text: &[char], place: usize) -> LexError
+    ensures { result ≡ cause_of text.now place }
+{
+    let [first, rest @ ..] = text else {
+        return LexError::BadLexeme { place };
+    };
+    if opens(*first, rest) {
+        return LexError::OpenComment { place };
+    }
+    match kind_of(*first) {
+        Kind::Digit => LexError::LiteralTooWide { place },
         _ => LexError::BadLexeme { place },
     }
 }
