@@ -1,7 +1,10 @@
 pub mod Bytes
+pub mod Halts
+pub mod Instances
 pub mod Pieces
 pub mod Progress
 pub mod Splits
 pub mod Statements
+pub mod Steps
 pub mod Whole
 pub mod Words
