@@ -1,10 +1,12 @@
 pub mod Bytes
 pub mod Halts
 pub mod Instances
+pub mod Marks
 pub mod Pieces
 pub mod Progress
 pub mod Splits
 pub mod Statements
 pub mod Steps
+pub mod Whence
 pub mod Whole
 pub mod Words
