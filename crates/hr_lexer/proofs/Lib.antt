@@ -1,3 +1,4 @@
+pub mod ClosedRead
 pub mod FrontRuns
 pub mod PiecesRead
 pub mod Splits
