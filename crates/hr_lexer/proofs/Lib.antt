@@ -3,6 +3,7 @@ pub mod FrontRuns
 pub mod PiecesRead
 pub mod Splits
 pub mod Statements
+pub mod StringRead
 pub mod TriviaRead
 pub mod Whole
 pub mod Words
