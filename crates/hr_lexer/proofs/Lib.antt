@@ -1,4 +1,6 @@
+pub mod Agreeing
 pub mod ClosedRead
+pub mod EscapesRead
 pub mod FrontRuns
 pub mod PiecesRead
 pub mod Splits
