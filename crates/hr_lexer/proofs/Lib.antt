@@ -3,6 +3,7 @@ pub mod ClosedRead
 pub mod EscapesRead
 pub mod FrontRuns
 pub mod PiecesRead
+pub mod QuotesRead
 pub mod Splits
 pub mod Statements
 pub mod StringRead
