@@ -2,7 +2,6 @@ use Rattle.std.proofs.Common.{◌≡◌, ◌≤◌, ◌<◌, ◌-◌, List, ℕ,
 use Rattle.hr_rules.specs.Quotes.{string_escape_len}
 use Rattle.hr_lexer.proofs.ClosedRead.{first_and}
 use Rattle.hr_lexer.proofs.StringRead.{StringAt, escaped, unended}
-use Rattle.hr_lexer.proofs.QuotesRead.{quote_reads, double_quote_reads}
 use Rattle.hr_lexer.proofs.quotes.string_len.Goals as goal
 
 pub returns-in_err-rest-in-92-clause-value : goal.returns-in_err-rest-in-92-clause-value
