@@ -13,7 +13,7 @@ use Rattle.hr_rules.proofs.Lexing.{same_trivia, same_lexeme, no_front}
 use Rattle.hr_rules.proofs.Apart.{rules_keep_apart}
 
 -- no blank and no comment begins the text
-pub NoPiece : Pieces → List ℕ → Type 0
+unfoldable pub NoPiece : Pieces → List ℕ → Type 0
 NoPiece is_piece rest = (piece after : List ℕ) → rest ≡ piece ++ after → is_piece piece after ≢ true
 
 module _ {class_of : Classes} {is_piece : Pieces} {bars : Barriers} (laws : AreApart class_of is_piece bars) where
