@@ -1,3 +1,5 @@
+pub mod NamesRead
+pub mod RunsRead
 pub mod Splits
 pub mod Statements
 pub mod Whole
