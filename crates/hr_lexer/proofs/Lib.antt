@@ -1,4 +1,6 @@
 pub mod NamesRead
+pub mod NumbersRead
+pub mod QualifiedRead
 pub mod RunsRead
 pub mod Splits
 pub mod Statements
