@@ -8,26 +8,30 @@ use Rattle.hr_base.specs.declared.lexeme.Class.{Class}
 use Rattle.hr_rules.specs.declared.character.Kind.{Kind}
 use Rattle.hr_rules.specs.Letters.{kind_of, continues_name, is_symbol_kind, is_in_name, is_symbol}
 use Rattle.hr_rules.specs.Runs.{is_run, stops}
-use Rattle.hr_rules.specs.Names.{word_class}
-use Rattle.hr_rules.specs.Operators.{is_dash, is_dashes, run_class}
+use Rattle.hr_rules.specs.Names.{word_class, small_class}
+use Rattle.hr_rules.specs.Operators.{is_dash, is_dashes, run_class, symbol_class}
 use Rattle.hr_rules.specs.Comments.{goes_on, begins_line_comment, opens}
 use Rattle.hr_rules.specs.Lexemes.{is_empty}
 use Rattle.hr_rules.proofs.Apart.{both, both_left, both_right, not_true, and_false}
 use Rattle.hr_lexer.specs.declared.taken.Taken.{Taken}
 use Rattle.hr_lexer.specs.NameReader.{word_at, symbols_at}
 use Rattle.hr_lexer.proofs.Statements.{Reads, ReadsRight, ReadsLongest}
-use Rattle.hr_lexer.proofs.RunsRead.{one_more, no_run, run_more, behind_more, run_all, run_stops, whole_run, run_len, whole_run_len, some_is, none_some, some_test, len_of, class_in, taken_right}
+use Rattle.hr_lexer.proofs.RunsRead.{one_more, no_run, run_more, behind_more, run_all, run_stops, whole_run, run_len, whole_run_len, some_is, none_some, some_test, len_of, class_in, taken_right, ReadParts}
 
 -- words
-small_right : ReadsRight Kind.Small
-small_right c rest taken k e =
+pub small_parts : (c : ℕ) (rest : List ℕ) (taken : Taken) → kind_of c ≡ Kind.Small → Some (word_at (c ∷ rest)) ≡ Some taken → ReadParts (small_class c) rest taken
+small_parts c rest taken k e =
     let is : word_at (c ∷ rest) ≡ taken = some_is (word_at (c ∷ rest)) taken e in
     let named : is_in_name c ≡ true = ap continues_name k in
     let m : ℕ = prefix_len is_in_name rest in
     let len : taken.len ≡ suc m = sym (ap len_of is) ∙ one_more is_in_name c rest named in
     let class : word_class (c ∷ take m rest) ≡ taken.class = sym (ap word_class (run_more is_in_name c rest named)) ∙ ap class_in is in
-    taken_right Kind.Small c rest m taken k refl len (prefix_len-le-length is_in_name rest)
-    (ap (λ b. cond b (Some (word_class (c ∷ take m rest))) None) (whole_run is_in_name rest) ∙ ap Some class)
+    (m, len, prefix_len-le-length is_in_name rest, ap (λ b. cond b (Some (word_class (c ∷ take m rest))) None) (whole_run is_in_name rest) ∙ ap Some class)
+
+small_right : ReadsRight Kind.Small
+small_right c rest taken k e =
+    let parts : ReadParts (small_class c) rest taken = small_parts c rest taken k e in
+    taken_right Kind.Small c rest parts.0 taken k refl parts.1 parts.2 parts.3
 
 small_longest : ReadsLongest Kind.Small
 small_longest c front after k free some =
@@ -95,8 +99,9 @@ pub dashes_are : (c : ℕ) (rest : List ℕ) → begins_line_comment (c ∷ rest
 dashes_are c [] = refl
 dashes_are c (b ∷ rest) = dashes_by c b rest (is_symbol b) refl
 
-symbol_right : ReadsRight Kind.Symbol
-symbol_right c rest taken k e =
+pub symbol_parts : (c : ℕ) (rest : List ℕ) (taken : Taken) → kind_of c ≡ Kind.Symbol → symbols_at (c ∷ rest) ≡ Some taken
+    → (begins_line_comment (c ∷ rest) ≡ false) × ReadParts (symbol_class c) rest taken
+symbol_parts c rest taken k e =
     let s : is_symbol c ≡ true = ap is_symbol_kind k in
     let n : ℕ = prefix_len is_symbol (c ∷ rest) in
     let run : List ℕ = take (prefix_len is_symbol rest) rest in
@@ -104,8 +109,13 @@ symbol_right c rest taken k e =
     kept (is_dashes (take n (c ∷ rest))) (record { class = run_class (take n (c ∷ rest)); len = n }) taken e in
     let no : is_dashes (c ∷ run) ≡ false = sym (ap is_dashes (run_more is_symbol c rest s)) ∙ parts.0 in
     let class : run_class (c ∷ run) ≡ taken.class = sym (ap run_class (run_more is_symbol c rest s)) ∙ ap class_in parts.1 in
-    taken_right Kind.Symbol c rest (prefix_len is_symbol rest) taken k (dashes_are c rest ∙ no) (sym (ap len_of parts.1) ∙ one_more is_symbol c rest s) (prefix_len-le-length is_symbol rest)
-    (ap (λ b. cond b (Some (run_class (c ∷ run))) None) (both (is_run is_symbol run (drop (prefix_len is_symbol rest) rest)) (not (is_dashes (c ∷ run))) (whole_run is_symbol rest) (ap not no)) ∙ ap Some class)
+    (dashes_are c rest ∙ no, (prefix_len is_symbol rest, sym (ap len_of parts.1) ∙ one_more is_symbol c rest s, prefix_len-le-length is_symbol rest,
+    ap (λ b. cond b (Some (run_class (c ∷ run))) None) (both (is_run is_symbol run (drop (prefix_len is_symbol rest) rest)) (not (is_dashes (c ∷ run))) (whole_run is_symbol rest) (ap not no)) ∙ ap Some class))
+
+symbol_right : ReadsRight Kind.Symbol
+symbol_right c rest taken k e =
+    let parts : (begins_line_comment (c ∷ rest) ≡ false) × ReadParts (symbol_class c) rest taken = symbol_parts c rest taken k e in
+    taken_right Kind.Symbol c rest parts.1.0 taken k parts.0 parts.1.1 parts.1.2 parts.1.3
 
 -- an operator is read whole
 symbols_are : (c : ℕ) (front after : List ℕ) → is_symbol c ≡ true → (is_run is_symbol front after && not (is_dashes (c ∷ front))) ≡ true

@@ -83,3 +83,7 @@ taken_right kind c rest m taken k free len within is =
     let some : 0 < taken.len = omega (arith, len) in
     let no_more : taken.len ≤ suc (length rest) = omega (arith, len, within) in
     (free, some, no_more, ap (λ n. spelled_class (take n (c ∷ rest)) (drop n (c ∷ rest))) len ∙ (ap (λ x. spelled_class_by x c (take m rest) (drop m rest)) k ∙ is))
+
+-- the characters behind the first one that are read with it, and their class
+abbrev pub ReadParts : (List ℕ → List ℕ → Option Class) → List ℕ → Taken → Type 0
+ReadParts class_by rest taken = (m : ℕ) × (taken.len ≡ suc m) × (m ≤ length rest) × (class_by (take m rest) (drop m rest) ≡ Some taken.class)
