@@ -6,10 +6,14 @@ pub mod FrontRuns
 pub mod Halts
 pub mod Instances
 pub mod Marks
+pub mod NamesRead
+pub mod NumbersRead
 pub mod Pieces
 pub mod PiecesRead
 pub mod Progress
+pub mod QualifiedRead
 pub mod QuotesRead
+pub mod RunsRead
 pub mod Splits
 pub mod Statements
 pub mod Steps

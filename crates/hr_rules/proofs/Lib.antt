@@ -1,4 +1,5 @@
 pub mod Apart
+pub mod Digits
 pub mod Lexing
 pub mod Reading
 pub mod Stops
