@@ -6,13 +6,13 @@ use Rattle.std.specs.Ordering.{nat_cmp, match_ordering}
 use Rattle.std.specs.declared.cmp.Ordering.{Ordering}
 use Rattle.std.specs.declared.cmp.Ordering.TheVariants.{Less, Equal, Greater}
 use Rattle.std.proofs.lemmas.Bool.{cases_eq, cases_lt}
-use Rattle.std.proofs.lemmas.List.{length_push, length-set, get_or_push, get_or_append_left, get_or-set_same, get_or-set_other, get_or-replicate, get_or_past, length-replicate, take-append-le, take_at, get_or-take, take-append-drop, get_or_default, drop_more, drop_all}
-use Rattle.std.proofs.lemmas.List.Elements.{Contains-push, Contains-push_cases, Contains-append_left, Contains-append_right, Contains-append_cases, Contains-get_or, All-contains}
+use Rattle.std.proofs.lemmas.List.{length-set, get_or-set_same, get_or-set_other, get_or-replicate, get_or_past, length-replicate, take-append-le, take_at, take-append-drop, get_or_default, drop_more, drop_all}
+use Rattle.std.proofs.lemmas.List.Elements.{Contains-push, Contains-push_cases, Contains-append_left, Contains-append_right, Contains-append_cases, All-contains}
 use Rattle.std.proofs.lemmas.Cmp.{ranked}
 use Rattle.hr_graph.specs.Graph.{IsWithin, IsReady, IsNext, IsInOrder}
 use Rattle.hr_graph.specs.Rows.{AreRows}
 use Rattle.hr_graph.specs.Strong.{IsTarget}
-use Rattle.hr_graph.specs.Ready.{IsDone, GetsReady, Waits, Settled}
+use Rattle.hr_graph.specs.Ready.{IsDone, Settled}
 use Rattle.hr_graph.proofs.Members.{contains_none, contains_more, contains_kept, at_set}
 use Rattle.hr_graph.proofs.RowLemmas.{empty_row}
 use Rattle.hr_graph.proofs.StrongSteps.{at_push}

@@ -4,12 +4,12 @@ use Rattle.std.specs.Prelude.{Contains, All, true, false, ◌==◌}
 use Rattle.std.proofs.lemmas.Bool.Decides.{nat_tests}
 use Rattle.std.proofs.lemmas.Bool.{cases_eq, cases_lt}
 use Rattle.std.proofs.lemmas.List.{append-nil, length_push, get_or_push, get_or_append_left, take_more, take_all, take-append-le, take_at, length-take-le, get_or-take, take-take, get_or_default}
-use Rattle.std.proofs.lemmas.List.Elements.{Contains-push, Contains-push_cases, Contains-append_left, Contains-append_right, Contains-append_cases, Contains-get_or}
-use Rattle.hr_graph.specs.Graph.{IsWithin, Reaches, here, along, Mutual, IsReady, IsNext, IsInOrder, IsOrder, IsPlaced, IsFree, IsNextComponent, AreInOrder, AreComponents}
+use Rattle.std.proofs.lemmas.List.Elements.{Contains-push, Contains-push_cases, Contains-get_or}
+use Rattle.hr_graph.specs.Graph.{IsWithin, Reaches, here, along, Mutual, IsReady, IsNext, IsInOrder, IsOrder, IsPlaced, IsNextComponent, AreInOrder, AreComponents}
 use Rattle.hr_graph.specs.Strong.{AreLabels}
 use Rattle.hr_graph.specs.Cycle.{IsNumbered}
 use Rattle.hr_graph.specs.Groups.{IsLeastOf, AreLeasts, AreLinks, AreMembers, add_row, groups_of}
-use Rattle.hr_graph.proofs.Members.{contains_none, contains_more, contains_kept}
+use Rattle.hr_graph.proofs.Members.{contains_none, contains_kept}
 use Rattle.hr_graph.proofs.StrongSteps.{at_push}
 use Rattle.hr_graph.proofs.LevelSteps.{ends_below}
 use Rattle.hr_graph.proofs.CycleSteps.{labels_fall}

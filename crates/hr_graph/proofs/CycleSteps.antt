@@ -1,8 +1,7 @@
 -- The first node on a cycle, and the nearest node of a row, one element at a time.
-use Rattle.std.proofs.Common.{◌≡◌, ◌⊎◌, ◌+◌, ◌<◌, ◌≤◌, ◌++◌, ◌∷◌, ℕ, [], List, Option, Some, None, length, take, get_or, min, arith, sym, ◌∙◌, ap, subst, refl, inl, inr}
+use Rattle.std.proofs.Common.{◌≡◌, ◌<◌, ◌≤◌, ◌++◌, ◌∷◌, ℕ, [], List, Option, Some, None, get_or, min, arith, sym, ◌∙◌, subst, inl, inr}
 use Rattle.std.specs.Prelude.{Contains, IfNone, IfSome}
-use Rattle.std.proofs.lemmas.Bool.{cases_eq, cases_lt}
-use Rattle.std.proofs.lemmas.List.{take_more, take_all, get_or_read}
+use Rattle.std.proofs.lemmas.Bool.{cases_lt}
 use Rattle.std.proofs.lemmas.List.Elements.{Contains-push}
 use Rattle.hr_graph.specs.Graph.{IsWithin, Reaches, here, along}
 use Rattle.hr_graph.specs.Strong.{AreLabels}

@@ -1,14 +1,14 @@
 -- An edge of the last group is followed: what is left to do falls, and there is room for each component.
-use Rattle.std.proofs.Common.{◌≡◌, ◌⊎◌, ◌+◌, ◌-◌, ◌<◌, ◌≤◌, ◌++◌, ◌∷◌, ℕ, zero, suc, Bool, true, false, cond, [], List, length, take, map, get_or, set, min, arith, sym, ◌∙◌, ap, subst, refl, inl, inr}
+use Rattle.std.proofs.Common.{◌≡◌, ◌+◌, ◌-◌, ◌<◌, ◌≤◌, ◌++◌, ◌∷◌, ℕ, zero, suc, Bool, true, false, cond, [], List, length, take, get_or, set, min, arith, sym, ◌∙◌, ap, subst, refl, inl, inr}
 use Rattle.std.specs.Prelude.{Contains, AllPairs, nat_lt}
-use Rattle.std.proofs.lemmas.Bool.{cases_eq, cases_lt}
-use Rattle.std.proofs.lemmas.List.{length_push, length-append, length-map, length-take, length-set, get_or-take, get_or_past, get_or_default, get_or-map, get_or_read}
+use Rattle.std.proofs.lemmas.Bool.{cases_lt}
+use Rattle.std.proofs.lemmas.List.{length_push, length-append, length-map, length-take, length-set, get_or-take, get_or_default, get_or-map, get_or_read}
 use Rattle.std.proofs.lemmas.List.Elements.{Contains-push}
 use Rattle.hr_graph.specs.declared.strong.Mark.{Mark}
 use Rattle.hr_graph.specs.declared.strong.Mark.TheVariants.{Unseen, Open, Closed}
-use Rattle.hr_graph.specs.Strong.{IsTarget, Way, stay, go, mark_of, IsSearch, IsSearchBut, IsSound, Follows, Joined, AreEarly, HasTargets, HasRoom, closing, waiting, weigh, work, ones, loads, IsSeen}
+use Rattle.hr_graph.specs.Strong.{IsTarget, stay, go, mark_of, IsSearch, IsSound, Follows, Joined, AreEarly, closing, waiting, weigh, work, ones, loads, IsSeen}
 use Rattle.hr_graph.proofs.Members.{contains_more}
-use Rattle.hr_graph.proofs.StrongSteps.{way_on, entered, passed, joined, popped, shut, pairs_front, pairs_last}
+use Rattle.hr_graph.proofs.StrongSteps.{way_on, entered, passed, joined, popped, shut, pairs_last}
 
 pub sound_same : {rows : List (List ℕ)} (marks m : List Mark) (path p starts s : List ℕ) (pending w : List (ℕ × ℕ)) (closed c : ℕ)
     → m ≡ marks → p ≡ path → s ≡ starts → w ≡ pending → c ≡ closed → IsSound rows marks path starts pending closed → IsSound rows m p s w c

@@ -1,9 +1,9 @@
 -- The least nodes of the components, and their members, one node at a time.
-use Rattle.std.proofs.Common.{◌≡◌, ◌≢◌, ◌⊎◌, ◌+◌, ◌<◌, ◌≤◌, ◌++◌, ◌∷◌, ℕ, zero, suc, [], List, Option, Some, None, length, take, map, get_or, set, replicate, arith, sym, ◌∙◌, ap, subst, refl, inl, inr}
-use Rattle.std.specs.Prelude.{Contains, All, unwrap_or}
+use Rattle.std.proofs.Common.{◌≡◌, ◌≢◌, ◌+◌, ◌<◌, ◌≤◌, ◌++◌, ◌∷◌, ℕ, [], List, Option, Some, None, length, take, get_or, set, replicate, arith, sym, ◌∙◌, ap, subst, refl, inl, inr}
+use Rattle.std.specs.Prelude.{Contains, unwrap_or}
 use Rattle.std.specs.List.Sorted.{IsStrictlyIncreasing}
 use Rattle.std.proofs.lemmas.Bool.{cases_eq, cases_lt}
-use Rattle.std.proofs.lemmas.List.{length_push, length-set, length-replicate, length-take-le, get_or_push, get_or_append_left, get_or-set_same, get_or-set_other, get_or-replicate, get_or_past, take_more, take_all, get_or-take, get_or_read}
+use Rattle.std.proofs.lemmas.List.{length_push, length-set, length-replicate, length-take-le, get_or_push, get_or_append_left, get_or-set_same, get_or-set_other, get_or-replicate, get_or_past, take_more, get_or_read}
 use Rattle.std.proofs.lemmas.List.Elements.{Contains-push, Contains-get_or}
 use Rattle.hr_graph.specs.Groups.{IsLeastOf, AreLeasts, AreLinks, AreMembers}
 use Rattle.hr_graph.proofs.Members.{contains_none, contains_more, contains_kept, at_set}

@@ -1,5 +1,5 @@
 -- The search for strong components from its start to its end.
-use Rattle.std.proofs.Common.{◌≡◌, ◌⊎◌, ◌+◌, ◌<◌, ◌≤◌, ◌++◌, ◌∷◌, ℕ, [], List, length, map, get_or, set, replicate, arith, sym, ◌∙◌, ap, subst, refl, inl, inr}
+use Rattle.std.proofs.Common.{◌≡◌, ◌+◌, ◌<◌, ◌≤◌, ◌++◌, ◌∷◌, ℕ, [], List, length, map, get_or, set, replicate, arith, sym, ◌∙◌, ap, subst, refl, inl, inr}
 use Rattle.std.specs.Prelude.{Contains}
 use Rattle.std.proofs.lemmas.Bool.{cases_lt}
 use Rattle.std.proofs.lemmas.List.{length_push, length-set, length-map, length-replicate, get_or-replicate, get_or_past, get_or-map}
@@ -7,7 +7,7 @@ use Rattle.hr_graph.specs.declared.strong.Mark.{Mark}
 use Rattle.hr_graph.specs.declared.strong.Mark.TheVariants.{Unseen, Open, Closed}
 use Rattle.hr_graph.specs.Graph.{IsWithin, Reaches, here, along}
 use Rattle.hr_graph.specs.Rows.{AreRows}
-use Rattle.hr_graph.specs.Strong.{IsTarget, Way, stay, go, mark_of, IsSearch, IsSearchBut, IsNotLater, IsSound, HasTargets, waiting, weigh, ones, IsSeen, label_in, AreLabels, IsFresh}
+use Rattle.hr_graph.specs.Strong.{Way, stay, go, mark_of, IsSearch, IsSearchBut, IsNotLater, IsSound, HasTargets, waiting, weigh, ones, IsSeen, label_in, AreLabels, IsFresh}
 use Rattle.hr_graph.proofs.Members.{contains_none}
 use Rattle.hr_graph.proofs.StrongSteps.{entered}
 use Rattle.hr_graph.proofs.FollowSteps.{sound_same, weigh_entered}

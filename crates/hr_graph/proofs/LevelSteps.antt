@@ -1,15 +1,14 @@
 -- The search by levels keeps its invariant.
-use Rattle.std.proofs.Common.{◌≡◌, ◌⊎◌, ◌+◌, ◌-◌, ◌<◌, ◌≤◌, ◌++◌, ◌∷◌, ℕ, zero, suc, [], List, Option, Some, None, length, take, map, get_or, set, replicate, arith, sym, ◌∙◌, ap, subst, refl, inl, inr}
+use Rattle.std.proofs.Common.{◌≡◌, ◌⊎◌, ◌+◌, ◌<◌, ◌≤◌, ◌++◌, ◌∷◌, ℕ, zero, suc, [], List, Option, Some, None, length, take, get_or, set, replicate, arith, sym, ◌∙◌, ap, subst, refl, inl, inr}
 use Rattle.std.specs.Prelude.{Contains, AllPairs}
 use Rattle.std.proofs.lemmas.Bool.{cases_eq, cases_lt}
-use Rattle.std.proofs.lemmas.List.{length_push, length-set, get_or_push, get_or_append_left, get_or-set_same, get_or-set_other, get_or-replicate, get_or_past, length-replicate, take_more, get_or-map, length-map, get_or_read, take_all}
+use Rattle.std.proofs.lemmas.List.{length_push, length-set, get_or_append_left, get_or-set_same, get_or-set_other, get_or-replicate, get_or_past, length-replicate, take_more, get_or-map, length-map, get_or_read, take_all}
 use Rattle.std.proofs.lemmas.List.Elements.{Contains-push, Contains-push_cases, Contains-get_or}
 use Rattle.std.proofs.lemmas.List.Quantifiers.{all_pairs_push}
 use Rattle.hr_graph.specs.Graph.{IsWithin, turned}
 use Rattle.hr_graph.specs.Rows.{AreRows}
-use Rattle.hr_graph.specs.Strong.{IsTarget}
 use Rattle.hr_graph.specs.Levels.{steps_of, AreSteps, Reached}
-use Rattle.hr_graph.proofs.Members.{contains_none, contains_more, contains_kept, at_set}
+use Rattle.hr_graph.proofs.Members.{contains_none, contains_more, contains_kept}
 use Rattle.hr_graph.proofs.StrongSteps.{at_push}
 
 -- the node has at most so many steps

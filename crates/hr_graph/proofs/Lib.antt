@@ -12,3 +12,4 @@ pub mod NameSteps
 pub mod WholeOrder
 pub mod GroupSteps
 pub mod ComponentOrder
+pub mod LawProofs

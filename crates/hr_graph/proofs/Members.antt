@@ -1,10 +1,10 @@
 -- What is in a list.
-use Rattle.std.proofs.Common.{◌≡◌, ◌⊎◌, ◌+◌, ◌-◌, ◌<◌, ◌++◌, ◌∷◌, ℕ, [], List, length, take, get_or, set, arith, sym, ◌∙◌, ap, subst, refl, inl, inr, Some, None}
+use Rattle.std.proofs.Common.{◌≡◌, ◌+◌, ◌-◌, ◌<◌, ◌++◌, ◌∷◌, ℕ, [], List, length, take, get_or, set, arith, sym, ◌∙◌, ap, subst, inl, inr, Some, None}
 use Rattle.std.specs.Prelude.{Contains, slice_get, Option}
 use Rattle.std.proofs.lemmas.Option.{get_or_from_slice_get}
 use Rattle.std.proofs.lemmas.Bool.{cases_eq}
-use Rattle.std.proofs.lemmas.List.{take_more, get_or-set_same, get_or-set_other, get_or_past, take_all}
-use Rattle.std.proofs.lemmas.List.Elements.{Contains-push, Contains-push_cases, Contains-append_left}
+use Rattle.std.proofs.lemmas.List.{take_more, get_or-set_same, get_or-set_other, take_all}
+use Rattle.std.proofs.lemmas.List.Elements.{Contains-push_cases, Contains-append_left}
 
 -- nothing is in the empty list
 pub contains_none : {X : Type 0} (x : X) → Contains [] x → ⊥

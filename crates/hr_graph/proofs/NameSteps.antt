@@ -1,6 +1,6 @@
 -- Names of modules, one at a time.
-use Rattle.std.proofs.Common.{◌≡◌, ◌≢◌, ◌⊎◌, ◌+◌, ◌<◌, ◌≤◌, ◌++◌, ◌∷◌, ℕ, zero, suc, Bool, true, false, cond, [], List, Option, Some, None, length, take, map, get_or, arith, sym, ◌∙◌, ap, subst, refl, inl, inr}
-use Rattle.std.specs.Prelude.{Contains, AllPairs, slice_get, All, is_some}
+use Rattle.std.proofs.Common.{◌≡◌, ◌≢◌, ◌⊎◌, ◌+◌, ◌<◌, ◌++◌, ◌∷◌, ℕ, zero, suc, Bool, true, false, cond, [], List, Option, Some, None, length, take, map, get_or, arith, sym, ◌∙◌, ap, subst, refl, inl, inr}
+use Rattle.std.specs.Prelude.{Contains, slice_get, is_some}
 use Rattle.std.specs.List.{AllZip}
 use Rattle.std.specs.Cmp.Lexicographic.{slice_cmp}
 use Rattle.std.specs.Ordering.{nat_cmp, is_eq}
@@ -9,15 +9,15 @@ use Rattle.std.specs.BTreeMap.{BTreeMap, get, is_at, Updates}
 use Rattle.std.specs.declared.cmp.Ordering.{Ordering}
 use Rattle.std.specs.declared.cmp.Ordering.TheVariants.{Less, Equal, Greater}
 use Rattle.std.proofs.lemmas.Option.{slice_get-get_or}
-use Rattle.std.proofs.lemmas.List.{take_more, map-append, get_or_read, take_all, length-take-le}
+use Rattle.std.proofs.lemmas.List.{take_more, map-append, get_or_read, length-take-le}
 use Rattle.std.proofs.lemmas.List.Elements.{Contains-get_or, Contains-push, Contains-append_left, Contains-append_right}
 use Rattle.std.proofs.lemmas.List.Quantifiers.{all_pairs_push}
 use Rattle.std.proofs.lemmas.Map.Lookups.{exact_bytes}
 use Rattle.hr_graph.specs.declared.module_order.ImportEdge.{ImportEdge}
 use Rattle.hr_graph.specs.declared.module_order.GraphError.{GraphError}
 use Rattle.hr_graph.specs.declared.module_order.GraphError.TheVariants.{DuplicateModule, NoModule, ImportCycle, Memory}
-use Rattle.hr_graph.specs.Modules.{HasNoRepeat, IsFirstRepeat, IsFirstUnknown, ArePlaces, AreEdges, IsEdgeOf, IsRepeatRefused, ShowsRepeat, IsUnknownRefused, ShowsUnknown}
-use Rattle.hr_graph.proofs.Members.{contains_none, contains_more, contains_kept}
+use Rattle.hr_graph.specs.Modules.{HasNoRepeat, IsFirstRepeat, ArePlaces, AreEdges, IsEdgeOf, IsRepeatRefused, ShowsRepeat, IsUnknownRefused, ShowsUnknown}
+use Rattle.hr_graph.proofs.Members.{contains_none, contains_more}
 
 -- one name more is shown
 pub shown_more : (names : List (List ℕ)) (places : List ℕ) (i : ℕ) (name copy : List ℕ) → i < length places → name ≡ get_or names (get_or places i 0) name → get_or places i 0 < length names → copy ≡ name

@@ -1,15 +1,15 @@
 -- The search for strong components keeps its invariant, step by step.
-use Rattle.std.proofs.Common.{◌≡◌, ◌⊎◌, ◌+◌, ◌-◌, ◌<◌, ◌≤◌, ◌++◌, ◌∷◌, ℕ, suc, Bool, true, false, cond, [], List, length, take, map, get_or, replicate, set, arith, sym, ◌∙◌, ap, subst, refl, inl, inr}
-use Rattle.std.specs.Prelude.{Contains, AllPairs, nat_lt}
+use Rattle.std.proofs.Common.{◌≡◌, ◌⊎◌, ◌+◌, ◌-◌, ◌<◌, ◌≤◌, ◌++◌, ◌∷◌, ℕ, [], List, length, take, get_or, set, arith, sym, ◌∙◌, ap, subst, refl, inl, inr}
+use Rattle.std.specs.Prelude.{Contains, AllPairs}
 use Rattle.std.proofs.lemmas.Bool.{cases_eq, cases_lt}
 use Rattle.std.proofs.lemmas.Bool.Decides.{nat_tests}
-use Rattle.std.proofs.lemmas.List.{length_push, get_or_push, get_or_append_left, get_or-append_right, get_or_read, length-set, get_or-set_same, get_or-set_other, get_or-replicate, get_or_past, length-replicate, length-append, length-map, length-take-le, get_or-take}
+use Rattle.std.proofs.lemmas.List.{length_push, get_or_push, get_or_append_left, get_or-append_right, get_or-set_same, get_or-set_other, length-append, length-take-le, get_or-take}
 use Rattle.std.proofs.lemmas.List.Elements.{Contains-push, Contains-push_cases, Contains-append_left, Contains-append_right, Contains-append_cases, Contains-get_or}
 use Rattle.std.proofs.lemmas.List.Quantifiers.{all_pairs_push}
 use Rattle.hr_graph.specs.declared.strong.Mark.{Mark}
 use Rattle.hr_graph.specs.declared.strong.Mark.TheVariants.{Unseen, Open, Closed}
 use Rattle.hr_graph.specs.Strong.{IsTarget, Way, stay, go, mark_of, ComesBack, IsPath, AreStarts, ArePending, IsSettled, IsNotLater, AreClosed, IsSearch, IsSearchBut, closing, waiting}
-use Rattle.hr_graph.proofs.Members.{contains_none, contains_more, contains_kept, at_set}
+use Rattle.hr_graph.proofs.Members.{contains_none, contains_more, contains_kept}
 
 -- ways join
 pub way_on : {rows : List (List ℕ)} (u v w : ℕ) → Way rows u v → Way rows v w → Way rows u w

@@ -1,12 +1,12 @@
 -- A graph without cycles is put in order whole, and the modules' edges are among its nodes.
-use Rattle.std.proofs.Common.{◌≡◌, ◌⊎◌, ◌+◌, ◌<◌, ◌≤◌, ◌++◌, ◌∷◌, ℕ, zero, suc, [], List, Option, Some, None, length, take, map, get_or, arith, sym, ◌∙◌, ap, subst, refl, inl, inr}
+use Rattle.std.proofs.Common.{◌≡◌, ◌⊎◌, ◌+◌, ◌<◌, ◌∷◌, ℕ, zero, suc, [], List, Option, Some, None, length, map, get_or, arith, ◌∙◌, ap, subst, inl, inr}
 use Rattle.std.specs.Prelude.{Contains, All, slice_get, IfNone}
-use Rattle.std.proofs.lemmas.Bool.{cases_eq, cases_lt}
+use Rattle.std.proofs.lemmas.Bool.{cases_eq}
 use Rattle.std.proofs.lemmas.List.Elements.{Contains-push, Contains-push_cases, Contains-append_left, Contains-append_right, Contains-append_cases, All-cons, All-nil}
 use Rattle.hr_graph.specs.declared.module_order.ImportEdge.{ImportEdge}
-use Rattle.hr_graph.specs.Graph.{IsWithin, IsReady, IsInOrder, IsOrder, Leads, IsFirstCycle}
+use Rattle.hr_graph.specs.Graph.{IsWithin, IsReady, IsInOrder, IsOrder, Leads}
 use Rattle.hr_graph.specs.Cycle.{IsNumbered, IsLeastThrough}
-use Rattle.hr_graph.specs.Modules.{AreEdges, IsEdgeOf, ShowsCycle, HasNoRepeat, IsReadingOrder}
+use Rattle.hr_graph.specs.Modules.{AreEdges, ShowsCycle, HasNoRepeat, IsReadingOrder}
 use Rattle.hr_graph.proofs.Members.{contains_none}
 use Rattle.hr_graph.proofs.LevelSteps.{ends_below}
 

@@ -1,6 +1,6 @@
 -- What the search for the first cycle finds.
-use Rattle.std.specs.Prelude.{◌≡◌, ◌⊎◌, ◌+◌, ◌≤◌, ◌<◌, ◌∷◌, ℕ, List, [], Option, Some, None, length, min, slice_index, Contains, IfSome}
-use Rattle.hr_graph.specs.Graph.{Reaches, Leads, IsFirstCycle}
+use Rattle.std.specs.Prelude.{◌≡◌, ◌⊎◌, ◌≤◌, ◌<◌, ◌∷◌, ℕ, List, [], Option, Some, None, min, slice_index, Contains, IfSome}
+use Rattle.hr_graph.specs.Graph.{Reaches, IsFirstCycle}
 use Rattle.hr_graph.specs.Levels.{steps_of}
 
 -- the nodes can be numbered such that each edge leads to a lesser number

@@ -1,5 +1,5 @@
 -- The number of steps from each node to a goal.
-use Rattle.std.specs.Prelude.{◌≡◌, ◌⊎◌, ◌+◌, ◌≤◌, ◌<◌, ◌++◌, ◌∷◌, ℕ, List, [], Option, Some, None, length, slice_index_or, slice_set, Contains}
+use Rattle.std.specs.Prelude.{◌≡◌, ◌⊎◌, ◌+◌, ◌≤◌, ◌++◌, ◌∷◌, ℕ, List, [], Option, Some, None, length, slice_index_or, slice_set, Contains}
 
 -- the steps of a node, if the goal can be reached from it
 abbrev pub steps_of : List (Option ℕ) → ℕ → Option ℕ

@@ -1,5 +1,5 @@
 -- A graph by the rows of its nodes.
-use Rattle.std.specs.Prelude.{◌≡◌, ◌<◌, ℕ, List, [], length, slice_index_or, Contains, All}
+use Rattle.std.specs.Prelude.{◌≡◌, ℕ, List, [], length, slice_index_or, Contains}
 
 -- the row of each node has the nodes that it points to, and no others
 pub record AreRows (nodes : ℕ) (edges : List (ℕ × ℕ)) (rows : List (List ℕ)) : Type 0 where

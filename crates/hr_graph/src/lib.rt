@@ -4,6 +4,7 @@
 
 mod cycle;
 mod groups;
+mod laws;
 mod levels;
 mod module_names;
 mod module_order;
@@ -12,6 +13,7 @@ mod rows;
 mod strong;
 
 pub use groups::components;
+pub use laws::{components_are_strong, components_are_unique, order_is_unique};
 pub use module_order::{GraphError, ImportEdge, order};
 
 #[cfg(test)]

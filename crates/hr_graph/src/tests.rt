@@ -1,3 +1,6 @@
+ghost use Rattle.std.specs.Prelude.{◌<◌, length, All, IsTrue};
+ghost use Rattle.hr_graph.specs.Graph.{IsWithin};
+
 use crate::{GraphError, ImportEdge, components, order};
 use hr_base::{Place, Pos, Text};
 use std::alloc::{AllocError, Global};
@@ -21,13 +24,40 @@ fn imports_of(alloc: Global, list: &[(usize, &str)]) -> Result<Vec<ImportEdge>, 
             place: Place {
                 module: Text::from_slice(alloc, b"M")?,
                 pos: Pos {
-                    line: line as u32,
+                    line: u32::try_from(line).unwrap_or(u32::MAX),
                     col: 8,
                 },
             },
         })?;
     }
     Ok(imports)
+}
+
+/// Whether both ends of each edge are nodes, as `components` requires.
+fn ends_within(nodes: usize, edges: &[(usize, usize)]) -> bool
+    ensures { IsTrue result → IsWithin nodes edges.now }
+{
+    for (from, to) in edges {
+        if *from >= nodes {
+            return false;
+        }
+        if *to >= nodes {
+            return false;
+        }
+    }
+    true
+}
+
+/// Whether each import is one of the modules', as `order` requires.
+fn begins_within(names: usize, imports: &[ImportEdge]) -> bool
+    ensures { IsTrue result → All (λ one. one.from < names) imports.now }
+{
+    for one in imports {
+        if one.from >= names {
+            return false;
+        }
+    }
+    true
 }
 
 fn add_word(line: &mut String, word: &Text) -> Result<(), AllocError> {
@@ -42,6 +72,9 @@ fn add_word(line: &mut String, word: &Text) -> Result<(), AllocError> {
 fn answer(alloc: Global, names: &[&str], imports: &[(usize, &str)]) -> Result<String, AllocError> {
     let names = names_of(alloc, names)?;
     let imports = imports_of(alloc, imports)?;
+    if !begins_within(names.len(), &imports) {
+        return Err(AllocError);
+    }
     let mut line = String::new(alloc);
     match order(alloc, &names, &imports) {
         Ok(list) => return format!(in alloc; "{list:?}"),
@@ -139,6 +172,9 @@ fn the_shortest_and_first_cycle_of_the_first_module_on_one_is_shown(
 
 /// The components, written as a list of lists.
 fn groups(alloc: Global, nodes: usize, edges: &[(usize, usize)]) -> Result<String, AllocError> {
+    if !ends_within(nodes, edges) {
+        return Err(AllocError);
+    }
     let groups = components(alloc, nodes, edges)?;
     let mut line = String::new(alloc);
     for group in groups.as_slice() {
@@ -198,6 +234,7 @@ fn two_hundred_modules_with_five_thousand_imports_are_ordered(rt: HostRuntime) -
             })?;
         }
     }
+    assert!(rt; begins_within(names.len(), &imports));
     match order(alloc, &names, &imports) {
         Ok(list) => {
             assert_eq!(rt; list.len(), 200);
@@ -228,12 +265,14 @@ fn a_long_chain_has_single_components_and_a_long_cycle_has_one(
     let alloc = rt.alloc();
     let nodes = 20_000;
     let mut edges = chain(alloc, nodes)?;
+    assert!(rt; ends_within(nodes, &edges));
     let single = components(alloc, nodes, &edges)?;
     assert_eq!(rt; single.len(), nodes);
     for (place, group) in single.as_slice().iter().enumerate() {
         assert!(rt; place < nodes && group.as_slice() == [nodes - 1 - place].as_slice());
     }
     edges.push((nodes - 1, 0))?;
+    assert!(rt; ends_within(nodes, &edges));
     let whole = components(alloc, nodes, &edges)?;
     assert_eq!(rt; whole.len(), 1);
     for group in whole.as_slice() {

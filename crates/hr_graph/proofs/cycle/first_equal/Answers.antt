@@ -1,6 +1,6 @@
-use Rattle.std.proofs.Common.{◌≡◌, ◌++◌, ◌∷◌, ℕ, Some, [], length, take, get_or, subst, sym, ◌∙◌, ap}
+use Rattle.std.proofs.Common.{◌++◌, ◌∷◌, Some, [], take, get_or, subst, sym, ◌∙◌, ap}
 use Rattle.std.proofs.lemmas.List.{take_more, take_all}
-use Rattle.hr_graph.specs.Cycle.{IsFirstEqual, lesser}
+use Rattle.hr_graph.specs.Cycle.{IsFirstEqual}
 use Rattle.hr_graph.proofs.CycleSteps.{equal_yes, equal_no}
 use Rattle.hr_graph.proofs.cycle.first_equal.Goals as goal
 use Rattle.hr_graph.proofs.cycle.first_equal.Goals.{then-numbers-from, else-numbers-from}

@@ -1,6 +1,5 @@
 -- From each node to the nearest of those to which it points, until the first comes again.
-use Rattle.std.proofs.Common.{◌≡◌, ◌∙◌, ◌<◌, ℕ, Some, [], length, get_or, subst, sym, ap}
-use Rattle.std.specs.Prelude.{All}
+use Rattle.std.proofs.Common.{◌∙◌, ◌<◌, Some, length, subst, sym, ap}
 use Rattle.hr_graph.specs.Cycle.{IsNearest}
 use Rattle.hr_graph.proofs.ShortestCycle.{IsComing, left_of, begin_cycle, more_cycle, less_left, end_cycle, row_within, row_at, coming_at, coming_within, first_within}
 use Rattle.hr_graph.proofs.cycle.least_cycle.Goals as goal

@@ -1,4 +1,4 @@
-use Rattle.std.proofs.Common.{◌≡◌, ◌++◌, ◌∷◌, ℕ, Some, [], length, take, get_or, subst, sym, ◌∙◌, ap}
+use Rattle.std.proofs.Common.{◌++◌, ◌∷◌, [], take, get_or, subst, sym}
 use Rattle.std.proofs.lemmas.List.{take_more, take_all}
 use Rattle.hr_graph.specs.Cycle.{IsNearest}
 use Rattle.hr_graph.proofs.CycleSteps.{nearest_some, nearest_none}

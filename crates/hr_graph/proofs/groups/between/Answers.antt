@@ -1,4 +1,4 @@
-use Rattle.std.proofs.Common.{◌≡◌, ◌∙◌, ◌++◌, ◌∷◌, [], subst, sym, ap, take, get_or}
+use Rattle.std.proofs.Common.{◌++◌, ◌∷◌, [], subst, sym, take, get_or}
 use Rattle.std.proofs.lemmas.List.{take_more, take_all}
 use Rattle.hr_graph.specs.Groups.{AreLinks}
 use Rattle.hr_graph.proofs.GroupSteps.{links_none, links_yes, links_no}

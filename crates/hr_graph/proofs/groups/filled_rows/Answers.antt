@@ -1,4 +1,4 @@
-use Rattle.std.proofs.Common.{◌≡◌, ◌∙◌, ◌<◌, ◌++◌, ◌∷◌, [], ℕ, length, take, get_or, ap, sym}
+use Rattle.std.proofs.Common.{◌≡◌, ◌∙◌, ◌++◌, ◌∷◌, [], length, take, get_or, ap, sym}
 use Rattle.std.proofs.lemmas.List.{take_all, get_or_read}
 use Rattle.hr_graph.specs.Groups.{groups_of}
 use Rattle.hr_graph.proofs.ComponentOrder.{groups_none, groups_some, is_zero, not_zero}

@@ -1,4 +1,4 @@
-use Rattle.std.proofs.Common.{◌≡◌, ◌∙◌, sym, arith, length, refl}
+use Rattle.std.proofs.Common.{arith, length, refl}
 use Rattle.hr_graph.proofs.GroupSteps.{no_firsts, firsts_more, firsts_done}
 use Rattle.hr_graph.proofs.groups.leasts.Goals as goal
 

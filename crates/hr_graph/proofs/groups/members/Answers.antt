@@ -1,6 +1,5 @@
-use Rattle.std.proofs.Common.{◌≡◌, ◌∙◌, subst, sym, ap, length, arith}
-use Rattle.std.proofs.lemmas.List.{length-set, length-replicate, take_all}
-use Rattle.hr_graph.specs.Groups.{AreMembers}
+use Rattle.std.proofs.Common.{◌∙◌, ap, length, arith}
+use Rattle.std.proofs.lemmas.List.{length-set, length-replicate}
 use Rattle.hr_graph.proofs.GroupSteps.{members_none, members_step}
 use Rattle.hr_graph.proofs.groups.members.Goals as goal
 

@@ -1,11 +1,8 @@
 -- The search goes against the edges, so by the rows of the graph that is turned round.
-use Rattle.std.proofs.Common.{◌≡◌, ◌+◌, ◌-◌, ◌<◌, ◌≤◌, ℕ, [], length, get_or, subst, sym, ◌∙◌, ap, arith}
-use Rattle.std.specs.Prelude.{Contains}
-use Rattle.std.proofs.lemmas.List.{get_or_read}
+use Rattle.std.proofs.Common.{get_or, subst, sym, ◌∙◌, arith}
 use Rattle.std.proofs.lemmas.List.Elements.{Contains-get_or}
-use Rattle.hr_graph.specs.Graph.{IsWithin, turned}
-use Rattle.hr_graph.specs.Rows.{AreRows}
-use Rattle.hr_graph.proofs.LevelSteps.{IsLooking, turned_within, start_levels, levels_done, some_within, ends_below, row_edge, edge_row, begin_looking, look, end_looking, row_of}
+use Rattle.hr_graph.specs.Graph.{IsWithin}
+use Rattle.hr_graph.proofs.LevelSteps.{turned_within, start_levels, levels_done, some_within, ends_below, row_edge, edge_row, begin_looking, look, end_looking, row_of}
 use Rattle.hr_graph.proofs.levels.distances.Goals as goal
 
 pub successors-requires : goal.successors-requires

@@ -1,4 +1,4 @@
-use Rattle.std.proofs.Common.{◌≡◌, ◌+◌, ◌-◌, ◌≤◌, ℕ, length, take, get_or}
+use Rattle.std.proofs.Common.{◌≡◌, ◌+◌, ◌-◌, ◌≤◌, length, take, get_or}
 use Rattle.hr_graph.proofs.LevelSteps.{IsLevels, IsLooking, nones}
 use Rattle.hr_graph.proofs.levels.distances.Given as goal
 

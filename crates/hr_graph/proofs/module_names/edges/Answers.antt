@@ -1,4 +1,4 @@
-use Rattle.std.proofs.Common.{◌≡◌, ◌∙◌, ◌+◌, sym, subst, take}
+use Rattle.std.proofs.Common.{◌∙◌, ◌+◌, sym, subst, take}
 use Rattle.hr_graph.specs.Modules.{AreEdges}
 use Rattle.hr_graph.proofs.NameSteps.{edges_more, unknown_refused}
 use Rattle.hr_graph.proofs.module_names.edges.Goals as goal

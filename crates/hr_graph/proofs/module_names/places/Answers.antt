@@ -1,4 +1,4 @@
-use Rattle.std.proofs.Common.{◌≡◌, ◌∙◌, sym, refl}
+use Rattle.std.proofs.Common.{◌∙◌, sym, refl}
 use Rattle.hr_graph.proofs.NameSteps.{repeat_refused, places_more, distinct_more, unseen_name}
 use Rattle.hr_graph.proofs.module_names.places.Goals as goal
 

@@ -1,4 +1,4 @@
-use Rattle.std.proofs.Common.{◌≡◌, ◌∙◌, ◌++◌, ◌∷◌, [], ap}
+use Rattle.std.proofs.Common.{◌∙◌, ◌++◌, ◌∷◌, [], ap}
 use Rattle.hr_graph.proofs.NameSteps.{shown_more}
 use Rattle.hr_graph.proofs.module_names.shown.Goals as goal
 

@@ -1,7 +1,6 @@
-use Rattle.std.proofs.Common.{◌≡◌, ◌∙◌, ◌<◌, [], length, map, get_or, subst, sym, ap}
+use Rattle.std.proofs.Common.{◌∙◌, ◌<◌, [], length, map, get_or, subst, sym, ap}
 use Rattle.std.specs.Prelude.{All, IfSome, IfNone}
-use Rattle.hr_graph.specs.Graph.{IsWithin}
-use Rattle.hr_graph.specs.Cycle.{IsFirstOn, IsNumbered, IsLeastThrough}
+use Rattle.hr_graph.specs.Cycle.{IsFirstOn, IsNumbered}
 use Rattle.hr_graph.proofs.WholeOrder.{cycle_within, cycle_shown}
 use Rattle.hr_graph.proofs.module_order.cycle_names.Goals as goal
 

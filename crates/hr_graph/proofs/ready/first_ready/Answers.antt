@@ -1,11 +1,11 @@
 -- The agenda's invariant, over the first round and then over the nodes in order.
-use Rattle.std.proofs.Common.{◌≡◌, ◌⊎◌, ◌+◌, ◌<◌, ◌≤◌, ◌++◌, ◌∷◌, ℕ, [], List, length, drop, get_or, set, true, subst, sym, ap, ◌∙◌, refl, inl, inr, arith}
+use Rattle.std.proofs.Common.{◌≡◌, ◌+◌, ◌<◌, ◌≤◌, [], length, drop, get_or, subst, sym, ◌∙◌, refl, inl, inr, arith}
 use Rattle.std.specs.Prelude.{Contains}
 use Rattle.std.proofs.lemmas.Bool.{cases_eq}
-use Rattle.std.proofs.lemmas.List.{get_or_read, drop_all}
-use Rattle.std.proofs.lemmas.List.Elements.{Contains-get_or, Contains-append_left, Contains-push}
+use Rattle.std.proofs.lemmas.List.{get_or_read}
+use Rattle.std.proofs.lemmas.List.Elements.{Contains-get_or}
 use Rattle.hr_graph.proofs.Members.{contains_none}
-use Rattle.hr_graph.proofs.AgendaSteps.{IsAgenda, agenda_targets, settled, settled_done, same_order, fresh_agenda, with_waiting, next_left, above_key, put, agenda_weaker, nothing_ready, released_fresh, ready_undone, undone, first_ready_in, released_known, put_next, none_left, empty_by}
+use Rattle.hr_graph.proofs.AgendaSteps.{agenda_targets, settled, settled_done, same_order, fresh_agenda, next_left, agenda_weaker, nothing_ready, ready_undone, undone, first_ready_in, released_known, put_next, none_left, empty_by}
 use Rattle.hr_graph.proofs.ready.first_ready.Goals as goal
 
 pub loop-node-init : goal.loop-node-init

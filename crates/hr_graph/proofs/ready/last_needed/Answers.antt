@@ -1,6 +1,6 @@
 -- The last target is looked at, and dropped if it is done.
 use Rattle.std.proofs.Common.{◌≡◌, ◌⊎◌, ◌-◌, ◌++◌, ◌∷◌, [], take, subst, sym, ◌∙◌, refl, inl, inr}
-use Rattle.std.specs.Prelude.{Contains, slice_index_or, Bool, true, false}
+use Rattle.std.specs.Prelude.{Contains}
 use Rattle.std.specs.Vec.{vec_len}
 use Rattle.std.proofs.lemmas.List.Elements.{Contains-push}
 use Rattle.hr_graph.specs.Ready.{IsDone}

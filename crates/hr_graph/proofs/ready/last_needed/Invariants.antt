@@ -1,4 +1,4 @@
-use Rattle.std.proofs.Common.{◌≡◌, ◌⊎◌, ◌<◌, ℕ, vec_len, length}
+use Rattle.std.proofs.Common.{◌⊎◌, ℕ, length}
 use Rattle.std.specs.Prelude.{Contains}
 use Rattle.hr_graph.specs.Ready.{IsDone}
 use Rattle.hr_graph.proofs.ready.last_needed.Given as goal

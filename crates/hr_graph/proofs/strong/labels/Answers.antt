@@ -1,4 +1,4 @@
-use Rattle.std.proofs.Common.{◌≡◌, ◌<◌, ◌∙◌, ap, subst, sym, arith, map}
+use Rattle.std.proofs.Common.{◌≡◌, ◌∙◌, ap, subst, sym, arith, map}
 use Rattle.std.proofs.lemmas.Result.{IfOk-weaker}
 use Rattle.hr_graph.specs.Strong.{HasTargets, AreLabels, label_in}
 use Rattle.hr_graph.proofs.LabelSteps.{fresh_sound, targets_within, labels_done}

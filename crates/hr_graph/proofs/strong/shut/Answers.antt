@@ -1,7 +1,7 @@
 -- Each turn closes the last node of the path, which is the one at that place.
-use Rattle.std.proofs.Common.{◌≡◌, ◌<◌, ◌++◌, ◌∷◌, [], length, arith, refl, sym, ap, ◌∙◌, get_or}
+use Rattle.std.proofs.Common.{◌≡◌, ◌<◌, length, arith, refl, sym, ap, ◌∙◌, get_or}
 use Rattle.std.proofs.lemmas.List.{take_all, length-set, length_push}
-use Rattle.hr_graph.specs.declared.strong.Mark.TheVariants.{Open, Closed}
+use Rattle.hr_graph.specs.declared.strong.Mark.TheVariants.{Closed}
 use Rattle.hr_graph.specs.Strong.{mark_of}
 use Rattle.hr_graph.proofs.ShutSteps.{seen_within, none_closed, node_at, front_rest, closed_one, closed_all, front_all}
 use Rattle.hr_graph.proofs.strong.shut.Goals as goal

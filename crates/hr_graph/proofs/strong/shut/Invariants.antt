@@ -1,4 +1,4 @@
-use Rattle.std.proofs.Common.{◌≡◌, ◌<◌, ◌≤◌, ℕ, length, take, get_or, vec_len}
+use Rattle.std.proofs.Common.{◌≡◌, ◌<◌, ℕ, length, take, vec_len}
 use Rattle.hr_graph.specs.Strong.{mark_of, closing}
 use Rattle.hr_graph.proofs.strong.shut.Given as goal
 

@@ -1,5 +1,5 @@
 -- The node's row is read and written back without what is done behind the target that it waits for.
-use Rattle.std.proofs.Common.{◌≡◌, ◌<◌, ◌++◌, ◌∷◌, ℕ, List, [], length, get_or, set, Bool, false, ◌⊎◌, subst, sym, ap, ◌∙◌, refl, inl, inr, arith}
+use Rattle.std.proofs.Common.{◌≡◌, ◌<◌, ◌++◌, ◌∷◌, ℕ, List, [], length, get_or, set, false, ◌⊎◌, subst, sym, ap, ◌∙◌, refl, inr, arith}
 use Rattle.std.specs.Prelude.{Contains}
 use Rattle.std.specs.Vec.{vec_len}
 use Rattle.hr_graph.specs.Ready.{IsDone}

@@ -1,8 +1,7 @@
 -- The last group has an edge left, which is followed, or none, and it is closed.
-use Rattle.std.proofs.Common.{◌≡◌, ◌-◌, ◌<◌, ◌++◌, ◌∷◌, [], List, length, take, refl, subst, sym, ap, ◌∙◌, arith}
-use Rattle.std.proofs.lemmas.List.{length_push}
+use Rattle.std.proofs.Common.{◌≡◌, ◌-◌, ◌<◌, ◌++◌, ◌∷◌, [], take, refl, subst, sym, ◌∙◌, arith}
 use Rattle.std.specs.Vec.{vec_len}
-use Rattle.hr_graph.specs.Strong.{Follows, AreEarly, work, mark_of, IsSeen}
+use Rattle.hr_graph.specs.Strong.{Follows, work, mark_of, IsSeen}
 use Rattle.hr_graph.proofs.Members.{last_split}
 use Rattle.hr_graph.proofs.FollowSteps.{sound_same, follow_next, close_last, less_close, seen_closing}
 use Rattle.hr_graph.proofs.strong.Search.explore.Goals as goal

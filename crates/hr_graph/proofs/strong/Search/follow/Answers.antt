@@ -1,7 +1,7 @@
 -- The three cases of the target's mark.
-use Rattle.std.proofs.Common.{◌≡◌, ◌≤◌, refl, subst, sym, ◌∙◌, ap, get_or}
+use Rattle.std.proofs.Common.{◌≡◌}
 use Rattle.hr_graph.specs.declared.strong.Mark.TheVariants.{Unseen}
-use Rattle.hr_graph.specs.Strong.{mark_of, work, waiting}
+use Rattle.hr_graph.specs.Strong.{mark_of}
 use Rattle.hr_graph.proofs.FollowSteps.{sound_same, follow_unseen, less_unseen, follow_open, follow_closed, read_mark, less_same, row_read}
 use Rattle.hr_graph.proofs.strong.Search.follow.Goals as goal
 

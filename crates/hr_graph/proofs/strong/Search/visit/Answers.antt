@@ -1,4 +1,4 @@
-use Rattle.std.proofs.Common.{◌≡◌, ◌∙◌, ap}
+use Rattle.std.proofs.Common.{◌≡◌}
 use Rattle.hr_graph.specs.declared.strong.Mark.TheVariants.{Unseen}
 use Rattle.hr_graph.specs.Strong.{mark_of}
 use Rattle.hr_graph.proofs.FollowSteps.{sound_same, read_mark, row_read}
