@@ -100,24 +100,41 @@ fn copies_are_the_same_type(rt: HostRuntime) -> Result<(), Fail> {
     Ok(())
 }
 
+/// `a -> a -> v1`, with the first variable bound.
+fn general(alloc: Global) -> Result<Scheme, AllocError> {
+    let behind = fun(alloc, Mono::Var(0), Mono::Var(1))?;
+    Ok(Scheme {
+        bound: 1,
+        body: fun(alloc, Mono::Var(0), behind)?,
+    })
+}
+
+/// `[a] -> [a] -> v1`.
+fn one_type(alloc: Global) -> Result<Mono, AllocError> {
+    let list_of = list(alloc, Mono::Var(0))?;
+    let same = list_of.copied(alloc)?;
+    fun(alloc, list_of, fun(alloc, same, Mono::Var(1))?)
+}
+
+/// `Int -> a -> v1`.
+fn two_types(alloc: Global) -> Result<Mono, AllocError> {
+    let behind = fun(alloc, Mono::Var(0), Mono::Var(1))?;
+    fun(alloc, int(alloc)?, behind)
+}
+
+/// `Int -> Int -> Int`.
+fn another_free_type(alloc: Global) -> Result<Mono, AllocError> {
+    let behind = fun(alloc, int(alloc)?, int(alloc)?)?;
+    fun(alloc, int(alloc)?, behind)
+}
+
 #[test]
 fn an_instance_gives_each_bound_variable_one_type(rt: HostRuntime) -> Result<(), Fail> {
     let alloc = rt.alloc();
-    let general = Scheme {
-        bound: 1,
-        body: fun(alloc, Mono::Var(0), fun(alloc, Mono::Var(0), Mono::Var(1))?)?,
-    };
-    let list_of = list(alloc, Mono::Var(0))?;
-    let same = fun(
-        alloc,
-        list_of.copied(alloc)?,
-        fun(alloc, list_of, Mono::Var(1))?,
-    )?;
-    assert!(rt; instance(alloc, &general, &same)?);
-    let differs = fun(alloc, int(alloc)?, fun(alloc, Mono::Var(0), Mono::Var(1))?)?;
-    assert!(rt; !instance(alloc, &general, &differs)?);
-    let free = fun(alloc, int(alloc)?, fun(alloc, int(alloc)?, int(alloc)?)?)?;
-    assert!(rt; !instance(alloc, &general, &free)?);
+    let general = general(alloc)?;
+    assert!(rt; instance(alloc, &general, &one_type(alloc)?)?);
+    assert!(rt; !instance(alloc, &general, &two_types(alloc)?)?);
+    assert!(rt; !instance(alloc, &general, &another_free_type(alloc)?)?);
     Ok(())
 }
 
