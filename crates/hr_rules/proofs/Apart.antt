@@ -51,11 +51,11 @@ one_run p (c ∷ x) a (d ∷ y) b f g e =
     let head : c ≡ d = cc in
     let tail : x ++ a ≡ y ++ b = cc in
     let f' : is_run p x a ≡ true = both (list_all p x) (stops p a)
-        (both_right (p c) (list_all p x) (both_left (list_all p (c ∷ x)) (stops p a) f))
-        (both_right (list_all p (c ∷ x)) (stops p a) f) in
+    (both_right (p c) (list_all p x) (both_left (list_all p (c ∷ x)) (stops p a) f))
+    (both_right (list_all p (c ∷ x)) (stops p a) f) in
     let g' : is_run p y b ≡ true = both (list_all p y) (stops p b)
-        (both_right (p d) (list_all p y) (both_left (list_all p (d ∷ y)) (stops p b) g))
-        (both_right (list_all p (d ∷ y)) (stops p b) g) in
+    (both_right (p d) (list_all p y) (both_left (list_all p (d ∷ y)) (stops p b) g))
+    (both_right (list_all p (d ∷ y)) (stops p b) g) in
     let rest : x ≡ y = one_run p x a y b f' g' tail in
     λ k. head k ∷ rest k
 
@@ -72,10 +72,12 @@ newline_is d e = split (d == 10) (d == 12) (d == 13) refl refl refl e
 not_on : (d : ℕ) (after : List ℕ) → is_newline d ≡ true → goes_on (d ∷ after) ≡ false
 unfolding kind_of
 not_on d after e = elim (newline_is d e) [
-    inl w ↦ elim w [
-        inl h ↦ subst (λ x. goes_on (x ∷ after) ≡ false) (sym h) refl
-      | inr h ↦ subst (λ x. goes_on (x ∷ after) ≡ false) (sym h) refl ]
-  | inr h ↦ subst (λ x. goes_on (x ∷ after) ≡ false) (sym h) refl ]
+  | inl w ↦ elim w [
+    | inl h ↦ subst (λ x. goes_on (x ∷ after) ≡ false) (sym h) refl
+    | inr h ↦ subst (λ x. goes_on (x ∷ after) ≡ false) (sym h) refl
+  ]
+  | inr h ↦ subst (λ x. goes_on (x ∷ after) ≡ false) (sym h) refl
+]
 
 not_not : (b : Bool) → not (not b) ≡ true → b ≡ true
 not_not true e = refl
@@ -120,16 +122,16 @@ more_closed : (c depth : ℕ) (rest after : List ℕ) → ((half : Bool) (d : �
     → Keeps (closed_len false depth (c ∷ rest)) (closed_len false depth (c ∷ (rest ++ after)))
 more_closed c depth [] after keeps =
     keeps_none (opens c []) (shuts c []) (option_map suc (closed_len true (suc depth) [])) (shut (λ d. closed_len true d []) depth)
-        (and_false (c == 123)) (and_false (c == 45)) (closed_len false depth (c ∷ after))
+    (and_false (c == 123)) (and_false (c == 45)) (closed_len false depth (c ∷ after))
 more_closed c depth (b ∷ text) after keeps =
     let rest : List ℕ = b ∷ text in
     keeps_cond (opens c rest) (option_map suc (closed_len true (suc depth) rest)) (cond (shuts c rest) (shut (λ d. closed_len true d rest) depth) (option_map suc (closed_len false depth rest)))
-        (option_map suc (closed_len true (suc depth) (rest ++ after))) (cond (shuts c rest) (shut (λ d. closed_len true d (rest ++ after)) depth) (option_map suc (closed_len false depth (rest ++ after))))
-        (keeps_map (closed_len true (suc depth) rest) (closed_len true (suc depth) (rest ++ after)) (keeps true (suc depth)))
-        (keeps_cond (shuts c rest) (shut (λ d. closed_len true d rest) depth) (option_map suc (closed_len false depth rest))
-            (shut (λ d. closed_len true d (rest ++ after)) depth) (option_map suc (closed_len false depth (rest ++ after)))
-            (keeps_shut (λ d. closed_len true d rest) (λ d. closed_len true d (rest ++ after)) (λ d. keeps true d) depth)
-            (keeps_map (closed_len false depth rest) (closed_len false depth (rest ++ after)) (keeps false depth)))
+    (option_map suc (closed_len true (suc depth) (rest ++ after))) (cond (shuts c rest) (shut (λ d. closed_len true d (rest ++ after)) depth) (option_map suc (closed_len false depth (rest ++ after))))
+    (keeps_map (closed_len true (suc depth) rest) (closed_len true (suc depth) (rest ++ after)) (keeps true (suc depth)))
+    (keeps_cond (shuts c rest) (shut (λ d. closed_len true d rest) depth) (option_map suc (closed_len false depth rest))
+    (shut (λ d. closed_len true d (rest ++ after)) depth) (option_map suc (closed_len false depth (rest ++ after)))
+    (keeps_shut (λ d. closed_len true d rest) (λ d. closed_len true d (rest ++ after)) (λ d. keeps true d) depth)
+    (keeps_map (closed_len false depth rest) (closed_len false depth (rest ++ after)) (keeps false depth)))
 
 pub closed_over : (half : Bool) (depth : ℕ) (text after : List ℕ) → Keeps (closed_len half depth text) (closed_len half depth (text ++ after))
 unfolding Keeps
@@ -174,8 +176,8 @@ one_by Kind.Blank c x a y b f g e = ap (λ z. c ∷ z) (one_empty x y f g)
 one_by Kind.Newline c x a y b f g e = ap (λ z. c ∷ z) (one_empty x y f g)
 one_by Kind.Symbol c x a y b f g e =
     one_run is_in_line (c ∷ x) a (c ∷ y) b
-        (both_right (begins_line_comment (c ∷ x)) (is_run is_in_line (c ∷ x) a) f)
-        (both_right (begins_line_comment (c ∷ y)) (is_run is_in_line (c ∷ y) b) g) (ap (λ z. c ∷ z) e)
+    (both_right (begins_line_comment (c ∷ x)) (is_run is_in_line (c ∷ x) a) f)
+    (both_right (begins_line_comment (c ∷ y)) (is_run is_in_line (c ∷ y) b) g) (ap (λ z. c ∷ z) e)
 one_by Kind.Special c x a y b f g e = one_nested (c ∷ x) a (c ∷ y) b f g (ap (λ z. c ∷ z) e)
 one_by Kind.Small c x a y b f g e = absurd (true≢false (sym f))
 one_by Kind.Large c x a y b f g e = absurd (true≢false (sym f))
@@ -259,8 +261,9 @@ end_bars_nothing = ap spelled_bars chars-nil
 
 pub rules_keep_apart : AreApart class_of is_piece bars
 rules_keep_apart = record {
-    lexeme_not_empty = nothing_empty;
-    piece_not_empty = not_empty;
-    piece_bars = piece_bars;
-    piece_is_one = one_piece;
-    end_bars_nothing = end_bars_nothing }
+  lexeme_not_empty = nothing_empty;
+  piece_not_empty = not_empty;
+  piece_bars = piece_bars;
+  piece_is_one = one_piece;
+  end_bars_nothing = end_bars_nothing;
+}

@@ -3,3 +3,4 @@ pub mod Behind
 pub mod GoOn
 pub mod Lexing
 pub mod Reading
+pub mod PosAt

@@ -92,7 +92,7 @@ led_by mark (item ∷ items) tail =
 abbrev pub LexesText : List ℕ → Items → Type 0
 LexesText bytes items =
     (list : List Item) × ((tail : List ℕ) × (Lexes class_of is_piece bars (drop (mark_len bytes) bytes) list tail
-        × (items ≡ led_by (take (mark_len bytes) bytes) list tail)))
+    × (items ≡ led_by (take (mark_len bytes) bytes) list tail)))
 
 -- the rules meet what a text needs to have one list of items at most
 abbrev pub RulesKeepApart : Type 0

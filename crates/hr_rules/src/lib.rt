@@ -8,8 +8,10 @@ mod laws;
 mod position_laws;
 mod positions;
 
-pub use character::{Kind, continues_name, is_blank_char, is_in_name, is_newline, is_symbol, kind_of};
+pub use character::{
+    Kind, continues_name, is_blank_char, is_in_name, is_newline, is_symbol, kind_of,
+};
 pub use items::join;
 pub use laws::{lexings_join, one_lexing, one_reading, readings_join, rules_keep_apart};
-pub use position_laws::{behind_goes_on, positions_go_on};
+pub use position_laws::{behind_goes_on, behind_is_pos_at, positions_go_on};
 pub use positions::{Reached, has_newline};
