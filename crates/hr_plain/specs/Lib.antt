@@ -1,1 +1,4 @@
 pub mod Reading
+pub mod Renaming
+pub mod Scoping
+pub mod Target

@@ -1,3 +1,8 @@
+ghost use Rattle.std.specs.Prelude.{◌≡◌, ◌+◌, ◌<◌, ◌++◌, ◌&&◌, ◌==◌, length, map, MatchOption, IfOk, OnOk};
+ghost use Rattle.hr_tree.specs.Yields.{equation_items, yield_of};
+ghost use Rattle.hr_plain.specs.Renaming.{owner_at, owner_within};
+ghost use Rattle.hr_plain.specs.Scoping as spec;
+
 use crate::rest::is_variable;
 use hr_base::{Item, Text};
 use hr_tree::{Equation, Exp, Module};
@@ -11,25 +16,75 @@ pub enum Owner {
     Equation(usize),
 }
 
-/// What the lexeme of that number, a name with that text, is bound to.
-pub fn owner_of(tree: &Module, lexeme: usize, text: &Text) -> Owner {
-    let mut before = 0usize;
+/// What the lexeme of that number is, a name with that text.
+pub fn owner_of(tree: &Module, lexeme: usize, text: &Text) -> Owner
+    ensures { result ≡ owner_at tree.now lexeme text.now }
+{
+    let mut left = lexeme;
     for (number, equation) in tree.equations.as_slice().iter().enumerate() {
-        let after = before.saturating_add(equation_len(equation));
-        if lexeme < after {
-            return if lexeme > before && has_variable(equation, text) {
-                Owner::Equation(number)
-            } else {
-                Owner::TopLevel
-            };
+        match behind_equation(equation, left) {
+            Some(behind) => left = behind,
+            None => return owner_within(number, equation, left, text),
         }
-        before = after;
     }
     Owner::TopLevel
 }
 
+/// What a name at a lexeme of the equation is.
+fn owner_within(number: usize, equation: &Equation, lexeme: usize, text: &Text) -> Owner
+    ensures { result ≡ owner_within number equation.now lexeme text.now }
+{
+    if lexeme == 0 {
+        Owner::TopLevel
+    } else if has_variable(equation, text) {
+        Owner::Equation(number)
+    } else {
+        Owner::TopLevel
+    }
+}
+
+/// How many of so many lexemes are left behind the equation, if it has no more.
+fn behind_equation(equation: &Equation, lexemes: usize) -> Option<usize>
+    ensures { MatchOption result (lexemes < length (equation_items equation.now)) (λ left. left + length (equation_items equation.now) ≡ lexemes) }
+{
+    let left = lexemes.checked_sub(1)?;
+    let left = left.checked_sub(equation.patterns.len())?;
+    let left = left.checked_sub(1)?;
+    behind_body(&equation.body, left)
+}
+
+/// The same of a body.
+fn behind_body(body: &Exp, lexemes: usize) -> Option<usize>
+    ensures { MatchOption result (lexemes < length (yield_of body.now)) (λ left. left + length (yield_of body.now) ≡ lexemes) }
+{
+    match body {
+        Exp::Variable(_) => lexemes.checked_sub(1),
+        Exp::Integer(_) => lexemes.checked_sub(1),
+        Exp::Group(_, inner, _) => match lexemes.checked_sub(1) {
+            Some(left) => match behind_body(inner.get(), left) {
+                Some(behind) => behind.checked_sub(1),
+                None => None,
+            },
+            None => None,
+        },
+        Exp::Apply(atoms) => {
+            let mut left = lexemes;
+            for atom in atoms.as_slice() {
+                match behind_body(atom, left) {
+                    Some(behind) => left = behind,
+                    None => return None,
+                }
+            }
+            Some(left)
+        }
+    }
+}
+
 /// Whether the text is a variable among the equation's patterns.
-pub fn has_variable(equation: &Equation, text: &Text) -> bool {
+#[tactic(auto, unfolding(crate::specs::Scoping::binds))]
+pub fn has_variable(equation: &Equation, text: &Text) -> bool
+    ensures { result ≡ spec.binds equation.now text.now }
+{
     equation
         .patterns
         .as_slice()
@@ -37,95 +92,111 @@ pub fn has_variable(equation: &Equation, text: &Text) -> bool {
         .any(|pattern| is_named(pattern, text))
 }
 
-fn is_named(item: &Item, text: &Text) -> bool {
+#[tactic(auto, unfolding(crate::specs::Scoping::is_named))]
+fn is_named(item: &Item, text: &Text) -> bool
+    ensures { result ≡ spec.is_named text.now item.now }
+{
     is_variable(item) && item.lexeme.text == *text
 }
 
-fn equation_len(equation: &Equation) -> usize {
-    body_len(&equation.body)
-        .saturating_add(equation.patterns.len())
-        .saturating_add(2)
-}
-
-fn body_len(body: &Exp) -> usize {
-    match body {
-        Exp::Variable(_) => 1,
-        Exp::Integer(_) => 1,
-        Exp::Group(_, inner, _) => body_len(inner.get()).saturating_add(2),
-        Exp::Apply(atoms) => {
-            let mut len = 0usize;
-            for atom in atoms.as_slice() {
-                len = len.saturating_add(body_len(atom));
-            }
-            len
-        }
-    }
-}
-
-/// Of each lexeme, whether it is a name with that text that is bound to the owner.
+/// Of each lexeme, whether it is a name with that text that is the owner's.
 pub fn occurrences(
     alloc: Global,
     tree: &Module,
     owner: &Owner,
     text: &Text,
-) -> Result<Vec<bool>, AllocError> {
-    let mut flags = Vec::new(alloc);
+) -> Result<Vec<bool>, AllocError>
+    ensures { IfOk result (λ marks. marks.items ≡ spec.occurrences_of owner.now text.now tree.now) }
+{
+    let mut marks = Vec::new(alloc);
     for (number, equation) in tree.equations.as_slice().iter().enumerate() {
-        match owner {
-            Owner::TopLevel => top_level_uses(&mut flags, equation, text)?,
-            Owner::Equation(own) => local_uses(&mut flags, equation, text, *own == number)?,
-        }
+        push_marks(&mut marks, equation, number, owner, text)?;
     }
-    Ok(flags)
+    Ok(marks)
 }
 
-/// In an equation, the uses of a top-level name.
-fn top_level_uses(
-    flags: &mut Vec<bool>,
+/// The same in the equation of that number.
+fn push_marks(
+    marks: &mut Vec<bool>,
     equation: &Equation,
+    number: usize,
+    owner: &Owner,
     text: &Text,
-) -> Result<(), AllocError> {
-    flags.push(is_named(&equation.name, text))?;
-    for _ in equation.patterns.as_slice() {
-        flags.push(false)?;
-    }
-    flags.push(false)?;
-    uses(flags, &equation.body, text, !has_variable(equation, text))
+) -> Result<(), AllocError>
+    ensures { OnOk result (marks.new.items ≡ marks.old.items ++ spec.equation_marks owner.now text.now number equation.now) }
+{
+    let is_own = is_equation(owner, number);
+    let is_top = is_top_level(owner);
+    marks.push(is_use(&equation.name, text, is_top))?;
+    push_patterns(marks, equation.patterns.as_slice(), text, is_own)?;
+    marks.push(false)?;
+    let are_sought = if has_variable(equation, text) {
+        is_own
+    } else {
+        is_top
+    };
+    push_uses(marks, &equation.body, text, are_sought)
 }
 
-/// In an equation, the uses of a variable, which are none in another equation than its own.
-fn local_uses(
-    flags: &mut Vec<bool>,
-    equation: &Equation,
-    text: &Text,
-    is_own: bool,
-) -> Result<(), AllocError> {
-    flags.push(false)?;
-    for pattern in equation.patterns.as_slice() {
-        flags.push(is_own && is_named(pattern, text))?;
+fn is_equation(owner: &Owner, number: usize) -> bool
+    ensures { result ≡ spec.is_same_owner (Owner.Equation number) owner.now }
+{
+    match owner {
+        Owner::TopLevel => false,
+        Owner::Equation(own) => number == *own,
     }
-    flags.push(false)?;
-    uses(flags, &equation.body, text, is_own)
+}
+
+fn is_top_level(owner: &Owner) -> bool
+    ensures { result ≡ spec.is_same_owner Owner.TopLevel owner.now }
+{
+    match owner {
+        Owner::TopLevel => true,
+        Owner::Equation(_) => false,
+    }
+}
+
+/// Whether the item has that text, where such names are sought.
+fn is_use(item: &Item, text: &Text, are_sought: bool) -> bool
+    ensures { result ≡ (are_sought && spec.is_named text.now item.now) }
+{
+    are_sought && is_named(item, text)
+}
+
+fn push_patterns(
+    marks: &mut Vec<bool>,
+    patterns: &[Item],
+    text: &Text,
+    are_sought: bool,
+) -> Result<(), AllocError>
+    ensures { OnOk result (marks.new.items ≡ marks.old.items ++ map (λ pattern. are_sought && spec.is_named text.now pattern) patterns.now) }
+{
+    for pattern in patterns {
+        marks.push(is_use(pattern, text, are_sought))?;
+    }
+    Ok(())
 }
 
 /// In a body, the variables with that text, if they are the ones that are sought.
-fn uses(
-    flags: &mut Vec<bool>,
+fn push_uses(
+    marks: &mut Vec<bool>,
     body: &Exp,
     text: &Text,
     are_sought: bool,
-) -> Result<(), AllocError> {
+) -> Result<(), AllocError>
+    ensures { OnOk result (marks.new.items ≡ marks.old.items ++ map (λ item. are_sought && spec.is_named text.now item) (yield_of body.now)) }
+{
     match body {
-        Exp::Variable(item) => flags.push(are_sought && is_named(item, text))?,
-        Exp::Integer(_) => flags.push(false)?,
-        Exp::Group(_, inner, _) => {
-            flags.push(false)?;
-            uses(flags, inner.get(), text, are_sought)?;
-            flags.push(false)?;
+        Exp::Variable(item) => marks.push(is_use(item, text, are_sought))?,
+        Exp::Integer(item) => marks.push(is_use(item, text, are_sought))?,
+        Exp::Group(left, inner, right) => {
+            marks.push(is_use(left, text, are_sought))?;
+            push_uses(marks, inner.get(), text, are_sought)?;
+            marks.push(is_use(right, text, are_sought))?;
         }
         Exp::Apply(atoms) => {
             for atom in atoms.as_slice() {
-                uses(flags, atom, text, are_sought)?;
+                push_uses(marks, atom, text, are_sought)?;
             }
         }
     }

@@ -1,3 +1,7 @@
+ghost use Rattle.std.specs.Prelude.{◌≡◌, IfOk, IfSome};
+ghost use Rattle.hr_tree.specs.Yields.{items_of};
+ghost use Rattle.hr_plain.specs.Renaming.{IsFound, IsRenamed, Renames, is_spelled};
+
 use crate::binding::{occurrences, owner_of};
 use crate::rest::is_variable;
 use crate::writing::{is_varid, respelled};
@@ -45,51 +49,83 @@ impl From<AllocError> for Why {
     }
 }
 
-/// The text of the module `Main` with the variable at the position renamed, wherever it is bound and
-/// used. The tree is of the plain form, and its positions are those of the text that it was read from.
+/// The text of the module `Main` with the name at the position renamed, wherever it is bound and
+/// used. The positions are those of the text that the tree was read from.
 pub fn rename(
     alloc: Global,
     tree: &Module,
     module: &Text,
     pos: Pos,
     new: &Text,
-) -> Result<Text, Why> {
-    let items = hr_tree::items(alloc, tree)?;
+) -> Result<Text, Why>
+    ensures { IfOk result (IsRenamed tree.now «module».now pos new.now) }
+{
+    let items = hr_tree::items(alloc, tree).map_err(Why::Memory)?;
     let Some((lexeme, old)) = named_at(tree, &items, module, pos) else {
-        let place = Place {
-            module: module.clone()?,
-            pos,
-        };
-        return Err(Why::NoSuchThing {
-            at: Sought::At(place),
-        });
+        return Err(nothing_at(module, pos));
     };
-    if !is_varid(alloc, new.as_slice())? {
+    if !is_varid(alloc, new.as_slice()).map_err(Why::Memory)? {
         return Err(Why::WrongForm);
     }
-    if items
+    if is_spelled(&items, new) {
+        return Err(Why::NotBuilt);
+    }
+    let text = renamed_at(alloc, tree, &items, lexeme, old, new).map_err(Why::Memory)?;
+    if text.len() > MODULE_LIMIT {
+        return Err(Why::OverLimit);
+    }
+    Ok(text)
+}
+
+/// The refusal where no name begins at the position of the module.
+fn nothing_at(module: &Text, pos: Pos) -> Why {
+    match module.clone() {
+        Ok(module) => Why::NoSuchThing {
+            at: Sought::At(Place { module, pos }),
+        },
+        Err(error) => Why::Memory(error),
+    }
+}
+
+/// Whether some lexeme has the text.
+fn is_spelled(items: &Items, text: &Text) -> bool
+    ensures { result ≡ is_spelled text.now items.now.list }
+{
+    items
         .list
         .as_slice()
         .iter()
-        .any(|item| item.lexeme.text == *new)
-    {
-        return Err(Why::NotBuilt);
-    }
-    let marks = occurrences(alloc, tree, &owner_of(tree, lexeme, old), old)?;
-    let written = join(alloc, &respelled(alloc, &items, marks.as_slice(), new)?)?;
-    if written.len() > MODULE_LIMIT {
-        return Err(Why::OverLimit);
-    }
-    Ok(written)
+        .any(|item| item.lexeme.text == *text)
 }
 
-/// The number and the text of the varid that begins at the position of the module.
+/// The text with every occurrence of the name at the lexeme respelled.
+fn renamed_at(
+    alloc: Global,
+    tree: &Module,
+    items: &Items,
+    lexeme: usize,
+    old: &Text,
+    new: &Text,
+) -> Result<Text, AllocError>
+    requires { items.now ≡ items_of tree.now }
+    ensures { IfOk result (Renames tree.now lexeme old.now new.now) }
+{
+    let owner = owner_of(tree, lexeme, old);
+    let marks = occurrences(alloc, tree, &owner, old)?;
+    let respelled = respelled(alloc, items, marks.as_slice(), new)?;
+    join(alloc, &respelled)
+}
+
+/// The number and the text of the variable that begins at the position of the module.
 fn named_at<'a>(
     tree: &Module,
     items: &'a Items,
     module: &Text,
     pos: Pos,
-) -> Option<(usize, &'a Text)> {
+) -> Option<(usize, &'a Text)>
+    requires { items.now ≡ items_of tree.now }
+    ensures { IfSome result (λ found. IsFound tree.now «module».now pos found.0 found.1.now) }
+{
     if !module.is(b"Main") {
         return None;
     }

@@ -1,6 +1,7 @@
 ghost use Rattle.std.specs.Prelude.{◌≡◌, ◌==◌, ◌++◌, [], length};
 ghost use Rattle.std.specs.Option.{option_to_list, option_copied};
 ghost use Rattle.hr_plain.specs.Reading.{first_of};
+ghost use Rattle.hr_plain.specs.Scoping.{is_variable};
 
 use hr_base::{Class, Item};
 use std::marker::Model;
@@ -52,9 +53,14 @@ impl Rest {
     }
 }
 
-/// Whether the lexeme is an ASCII varid.
-pub fn is_variable(item: &Item) -> bool {
-    item.lexeme.class == Class::VarId
+/// Whether the lexeme is a variable.
+pub fn is_variable(item: &Item) -> bool
+    ensures { result ≡ is_variable item.now }
+{
+    match item.lexeme.class {
+        Class::VarId => true,
+        _ => false,
+    }
 }
 
 pub fn is_integer(item: &Item) -> bool {

@@ -1,6 +1,9 @@
+ghost use Rattle.std.specs.Prelude.{◌≡◌, length, IfOk};
+ghost use Rattle.hr_plain.specs.Target.{IsParted, Respells, RespellsAll};
+
 use hr_base::{Class, Item, Items, Lexeme, Seq, Text};
 use hr_lexer::{LexError, lex};
-use std::alloc::{AllocError, AllocFailed, Global};
+use std::alloc::{AllocError, Global};
 
 /// The items with the new text in place of that of each marked lexeme. A blank is put before it where
 /// it would not be read apart from the lexeme before.
@@ -9,45 +12,57 @@ pub fn respelled(
     items: &Items,
     marks: &[bool],
     new: &Text,
-) -> Result<Items, AllocError> {
+) -> Result<Items, AllocError>
+    requires { length marks.now ≡ length items.now.list }
+    ensures { IfOk result (RespellsAll new.now marks.now items.now) }
+{
     let mut list = Vec::with_capacity(alloc, items.list.len())?;
     let mut before: &[u8] = b"";
-    for (item, marked) in items.list.as_slice().iter().zip(marks) {
-        let respelled = if *marked {
-            respelled_item(alloc, item, before, new)?
-        } else {
-            item.clone()?
-        };
-        list.push(respelled)?;
+    let olds = items.list.as_slice();
+    for (place, item) in olds.iter().enumerate() {
+        list.push(respelled_item(alloc, item, marks[place], before, new)?)?;
         before = item.lexeme.text.as_slice();
     }
     Ok(Items {
         list: Seq { list },
-        tail: items.tail.clone()?,
+        tail: Text::from_slice(alloc, items.tail.as_slice())?,
     })
 }
 
+/// An item with the new text, if it is marked; `before` is the text of the lexeme before it.
 fn respelled_item(
     alloc: Global,
     item: &Item,
+    marked: bool,
     before: &[u8],
     new: &Text,
-) -> Result<Item, AllocError> {
-    let blank = item.trivia.is_empty()
-        && !before.is_empty()
-        && !are_apart(alloc, before, new.as_slice())?;
-    let trivia = if blank {
-        Text::from_slice(alloc, b" ")?
-    } else {
-        item.trivia.clone()?
-    };
+) -> Result<Item, AllocError>
+    ensures { IfOk result (Respells new.now marked item.now) }
+{
+    if !marked {
+        return item.clone();
+    }
+    let trivia = parted(alloc, &item.trivia, before, new)?;
+    let text = new.clone()?;
     Ok(Item {
         trivia,
         lexeme: Lexeme {
             class: item.lexeme.class,
-            text: new.clone()?,
+            text,
         },
     })
+}
+
+/// What stands before the new text: what stood there, or one blank where nothing did and the two
+/// lexemes would not be read apart.
+fn parted(alloc: Global, trivia: &Text, before: &[u8], new: &Text) -> Result<Text, AllocError>
+    ensures { IfOk result (IsParted trivia.now) }
+{
+    if trivia.is_empty() && !before.is_empty() && !are_apart(alloc, before, new.as_slice())? {
+        Text::from_slice(alloc, b" ")
+    } else {
+        trivia.clone()
+    }
 }
 
 /// Whether two lexemes are read as they are where nothing stands between them.

@@ -8,8 +8,8 @@ use lib.Utf8.{encodes}
 use Rattle.hr_rules.specs.declared.character.Kind.{Kind}
 use Rattle.hr_rules.specs.Letters.{kind_of, is_newline, is_symbol}
 use Rattle.hr_rules.specs.Operators.{is_dash}
-use Rattle.hr_rules.specs.Runs.{is_run, stops, begins_with}
-use Rattle.hr_rules.specs.Comments.{goes_on, begins_line_comment, is_in_line, is_line_comment, is_nested_comment, opens, shuts, shut, closed_len, ends_there}
+use Rattle.hr_rules.specs.Runs.{is_run, stops}
+use Rattle.hr_rules.specs.Comments.{goes_on, begins_line_comment, is_in_line, is_nested_comment, opens, shuts, shut, closed_len, ends_there}
 use Rattle.hr_rules.specs.Lexemes.{is_empty, spelled_class, spelled_piece, spelled_piece_by, spelled_bars, spelled_bars_by, are_utf8, class_of, is_piece, bars}
 use Rattle.hr_rules.specs.Lexing.{AreApart}
 use Rattle.hr_rules.proofs.Lexing.{same_front}

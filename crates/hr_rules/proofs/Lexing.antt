@@ -13,7 +13,7 @@ pub same_front : (xs ys us vs : List ℕ) → xs ++ us ≡ ys ++ vs → length x
 same_front xs ys us vs e l =
     sym (take-append_seam xs us) ∙ ap (take (length xs)) e ∙ ap (λ n. take n (ys ++ vs)) l ∙ take-append_seam ys vs
 
-no_front : (xs ys : List ℕ) → xs ++ ys ≡ [] → xs ≡ []
+pub no_front : (xs ys : List ℕ) → xs ++ ys ≡ [] → xs ≡ []
 no_front [] ys e = refl
 no_front (x ∷ xs) ys e = cc
 

@@ -1,9 +1,8 @@
 -- A text has one list of items at most under the whole rules, and they join to it.
 use Rattle.std.proofs.Common.{◌≡◌, ℕ, List, [], ◌∷◌, ◌++◌, refl, sym, ap, ◌∙◌, append_assoc, take, drop, take-append-drop}
 use Rattle.hr_base.specs.declared.lexeme.Item.{Item}
-use Rattle.hr_base.specs.declared.lexeme.Items.{Items}
 use Rattle.hr_rules.specs.Lexing.{joined}
-use Rattle.hr_rules.specs.Lexemes.{class_of, is_piece, bars, mark_len, led_by, LexesText, OneReading, ReadingsJoin}
+use Rattle.hr_rules.specs.Lexemes.{class_of, is_piece, bars, mark_len, led_by, OneReading, ReadingsJoin}
 use Rattle.hr_rules.proofs.Lexing.{one_lexing, lexings_join_lem}
 use Rattle.hr_rules.proofs.Apart.{rules_keep_apart}
 

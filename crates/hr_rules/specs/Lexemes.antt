@@ -1,6 +1,6 @@
 -- The whole lexical rules: the Haskell 98 Report, sections 2.2 to 2.6, on the characters of a text, and
 -- what it is for the bytes of a text in UTF-8 to be lexed.
-use Rattle.std.specs.Prelude.{ℕ, Bool, true, false, ◌&&◌, ◌==◌, ◌≡◌, if◌then◌else◌, List, [], ◌∷◌, ◌++◌, length, Option, Some, None, take, drop, nat_eq}
+use Rattle.std.specs.Prelude.{ℕ, Bool, true, false, ◌&&◌, ◌≡◌, if◌then◌else◌, List, [], ◌∷◌, ◌++◌, Option, Some, None, take, drop, nat_eq}
 use Rattle.std.specs.List.{starts_with}
 use Rattle.std.specs.Str.{chars, is_utf8}
 use Rattle.hr_base.specs.declared.lexeme.Class.{Class}
@@ -9,7 +9,7 @@ use Rattle.hr_base.specs.declared.lexeme.Items.{Items}
 use Rattle.hr_rules.specs.declared.character.Kind.{Kind}
 use Rattle.hr_rules.specs.Letters.{kind_of}
 use Rattle.hr_rules.specs.Names.{small_class}
-use Rattle.hr_rules.specs.Operators.{symbol_class, is_dash}
+use Rattle.hr_rules.specs.Operators.{symbol_class}
 use Rattle.hr_rules.specs.Qualified.{conid_class, qualifies_reserved}
 use Rattle.hr_rules.specs.Numbers.{number_class, is_too_wide}
 use Rattle.hr_rules.specs.Quotes.{char_len, string_len, literal_class}

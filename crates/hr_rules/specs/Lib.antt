@@ -11,3 +11,4 @@ pub mod Positions
 pub mod Qualified
 pub mod Quotes
 pub mod Runs
+pub mod Stops

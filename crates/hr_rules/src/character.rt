@@ -1,7 +1,6 @@
 //! The kinds of character.
-ghost use Rattle.std.specs.Prelude.{◌≡◌, ◌||◌, ◌==◌};
-ghost use Rattle.std.specs.Char.{is_ascii_lowercase};
-ghost use Rattle.hr_rules.specs.Letters.{ascii_kind, ascii_mark_kind, continues_name, is_ascii_blank, is_blank, is_in_name, is_newline, is_symbol, kind_of, wide_kind};
+ghost use Rattle.std.specs.Prelude.{◌≡◌, ◌<◌};
+ghost use Rattle.hr_rules.specs.Letters.{ascii_kind, continues_name, is_blank, is_in_name, is_newline, is_symbol, kind_of, wide_kind};
 
 use unicode::properties::GeneralCategory;
 
@@ -33,12 +32,137 @@ pub enum Kind {
     Other,
 }
 
-const SYMBOLS: [char; 20] = [
-    '!', '#', '$', '%', '&', '*', '+', '.', '/', '<', '=', '>', '?', '@', '\\', '^', '|', '-', '~',
-    ':',
+/// The kinds of the ASCII characters, in the order of their codes.
+const ASCII_KINDS: [Kind; 128] = [
+    Kind::Other,
+    Kind::Other,
+    Kind::Other,
+    Kind::Other,
+    Kind::Other,
+    Kind::Other,
+    Kind::Other,
+    Kind::Other,
+    Kind::Other,
+    Kind::Blank,
+    Kind::Newline,
+    Kind::Blank,
+    Kind::Newline,
+    Kind::Newline,
+    Kind::Other,
+    Kind::Other,
+    Kind::Other,
+    Kind::Other,
+    Kind::Other,
+    Kind::Other,
+    Kind::Other,
+    Kind::Other,
+    Kind::Other,
+    Kind::Other,
+    Kind::Other,
+    Kind::Other,
+    Kind::Other,
+    Kind::Other,
+    Kind::Other,
+    Kind::Other,
+    Kind::Other,
+    Kind::Other,
+    Kind::Blank,
+    Kind::Symbol,
+    Kind::DoubleQuote,
+    Kind::Symbol,
+    Kind::Symbol,
+    Kind::Symbol,
+    Kind::Symbol,
+    Kind::Quote,
+    Kind::Special,
+    Kind::Special,
+    Kind::Symbol,
+    Kind::Symbol,
+    Kind::Special,
+    Kind::Symbol,
+    Kind::Symbol,
+    Kind::Symbol,
+    Kind::Digit,
+    Kind::Digit,
+    Kind::Digit,
+    Kind::Digit,
+    Kind::Digit,
+    Kind::Digit,
+    Kind::Digit,
+    Kind::Digit,
+    Kind::Digit,
+    Kind::Digit,
+    Kind::Symbol,
+    Kind::Special,
+    Kind::Symbol,
+    Kind::Symbol,
+    Kind::Symbol,
+    Kind::Symbol,
+    Kind::Symbol,
+    Kind::Large,
+    Kind::Large,
+    Kind::Large,
+    Kind::Large,
+    Kind::Large,
+    Kind::Large,
+    Kind::Large,
+    Kind::Large,
+    Kind::Large,
+    Kind::Large,
+    Kind::Large,
+    Kind::Large,
+    Kind::Large,
+    Kind::Large,
+    Kind::Large,
+    Kind::Large,
+    Kind::Large,
+    Kind::Large,
+    Kind::Large,
+    Kind::Large,
+    Kind::Large,
+    Kind::Large,
+    Kind::Large,
+    Kind::Large,
+    Kind::Large,
+    Kind::Large,
+    Kind::Special,
+    Kind::Symbol,
+    Kind::Special,
+    Kind::Symbol,
+    Kind::Small,
+    Kind::Special,
+    Kind::Small,
+    Kind::Small,
+    Kind::Small,
+    Kind::Small,
+    Kind::Small,
+    Kind::Small,
+    Kind::Small,
+    Kind::Small,
+    Kind::Small,
+    Kind::Small,
+    Kind::Small,
+    Kind::Small,
+    Kind::Small,
+    Kind::Small,
+    Kind::Small,
+    Kind::Small,
+    Kind::Small,
+    Kind::Small,
+    Kind::Small,
+    Kind::Small,
+    Kind::Small,
+    Kind::Small,
+    Kind::Small,
+    Kind::Small,
+    Kind::Small,
+    Kind::Small,
+    Kind::Special,
+    Kind::Symbol,
+    Kind::Special,
+    Kind::Symbol,
+    Kind::Other,
 ];
-
-const SPECIALS: [char; 9] = ['(', ')', ',', ';', '[', ']', '`', '{', '}'];
 
 /// The kind of the character.
 #[tactic(auto, unfolding(crate::specs::Letters::kind_of))]
@@ -46,58 +170,18 @@ pub fn kind_of(c: char) -> Kind
     ensures { result ≡ kind_of c }
 {
     if u32::from(c) < 128 {
-        ascii_kind(c)
+        ascii_kind(u32::from(c))
     } else {
         wide_kind(GeneralCategory::for_char(c))
     }
 }
 
 /// The kind of an ASCII character.
-fn ascii_kind(c: char) -> Kind
-    ensures { result ≡ ascii_kind c }
+fn ascii_kind(code: u32) -> Kind
+    requires { code < 128 }
+    ensures { result ≡ ascii_kind code }
 {
-    if is_small(c) {
-        Kind::Small
-    } else if is_blank(c) {
-        Kind::Blank
-    } else if is_newline(c) {
-        Kind::Newline
-    } else if c.is_ascii_uppercase() {
-        Kind::Large
-    } else if c.is_ascii_digit() {
-        Kind::Digit
-    } else {
-        ascii_mark_kind(c)
-    }
-}
-
-/// The same where it is no letter, digit or blank.
-fn ascii_mark_kind(c: char) -> Kind
-    ensures { result ≡ ascii_mark_kind c }
-{
-    if SYMBOLS.contains(&c) {
-        Kind::Symbol
-    } else if SPECIALS.contains(&c) {
-        Kind::Special
-    } else if c == '\'' {
-        Kind::Quote
-    } else if c == '"' {
-        Kind::DoubleQuote
-    } else {
-        Kind::Other
-    }
-}
-
-fn is_small(c: char) -> bool
-    ensures { result ≡ (is_ascii_lowercase c || c == 95) }
-{
-    c.is_ascii_lowercase() || c == '_'
-}
-
-fn is_blank(c: char) -> bool
-    ensures { result ≡ is_ascii_blank c }
-{
-    c == ' ' || c == '\t' || c == '\x0B'
+    ASCII_KINDS[code as usize]
 }
 
 /// Whether the character ends a line: a linefeed, form feed or return.

@@ -1,5 +1,6 @@
 ghost use Rattle.hr_rules.specs.Lexing.{OneLexing, LexingsJoin};
 ghost use Rattle.hr_rules.specs.Lexemes.{OneReading, ReadingsJoin, RulesKeepApart};
+ghost use Rattle.hr_rules.specs.Stops.{OneStop, StopsHaveNone, StoppedHasNone};
 
 /// A text has one list of items at most, whatever lexemes, blanks and comments are, as long as
 /// these keep apart: a law about the definitions, which no call needs to run.
@@ -25,4 +26,19 @@ pub fn one_reading()
 /// And these, joined, are the text.
 pub fn readings_join()
     ensures { ReadingsJoin }
+{}
+
+/// A text that can't be lexed any further has no items, whatever lexemes, blanks and comments are.
+pub fn stops_have_none()
+    ensures { StopsHaveNone }
+{}
+
+/// And that is so at one place at most.
+pub fn one_stop()
+    ensures { OneStop }
+{}
+
+/// A text at some place of which the whole rules stop has no items.
+pub fn stopped_has_none()
+    ensures { StoppedHasNone }
 {}

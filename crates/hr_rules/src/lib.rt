@@ -12,6 +12,9 @@ pub use character::{
     Kind, continues_name, is_blank_char, is_in_name, is_newline, is_symbol, kind_of,
 };
 pub use items::join;
-pub use laws::{lexings_join, one_lexing, one_reading, readings_join, rules_keep_apart};
+pub use laws::{
+    lexings_join, one_lexing, one_reading, one_stop, readings_join, rules_keep_apart,
+    stopped_has_none, stops_have_none,
+};
 pub use position_laws::{behind_goes_on, behind_is_pos_at, positions_go_on};
 pub use positions::{Reached, has_newline};

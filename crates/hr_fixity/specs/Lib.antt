@@ -1,0 +1,4 @@
+pub mod Productions
+pub mod Sequence
+pub mod Resolved
+pub mod Reader

@@ -1,0 +1,4 @@
+pub mod Choices
+pub mod ReadsBack
+pub mod Spellings
+pub mod Terms

@@ -1,0 +1,4 @@
+pub mod Grammar
+pub mod Matching
+pub mod Spelling
+pub mod Types

@@ -1,0 +1,188 @@
+use crate::{Mono, Scheme, TypeScope, has_arities, instance, print_in};
+use hr_base::{Entity, Name, Seq, Space, Text};
+use sqlite_items::{Boxed, Items};
+use std::alloc::{AllocError, Global};
+use std::process::Abort;
+use std::test::Fail;
+
+fn entity(alloc: Global, module: &[u8], text: &[u8]) -> Result<Entity, AllocError> {
+    Ok(Entity {
+        module: Text::from_slice(alloc, module)?,
+        space: Space::TypeName,
+        text: Text::from_slice(alloc, text)?,
+    })
+}
+
+fn none(alloc: Global) -> Items<Mono> {
+    Items::new(alloc)
+}
+
+fn one(alloc: Global, ty: Mono) -> Result<Items<Mono>, AllocError> {
+    let mut types = Items::new(alloc);
+    types.push(ty)?;
+    Ok(types)
+}
+
+fn two(alloc: Global, first: Mono, second: Mono) -> Result<Items<Mono>, AllocError> {
+    let mut types = one(alloc, first)?;
+    types.push(second)?;
+    Ok(types)
+}
+
+fn con(alloc: Global, text: &[u8], arguments: Items<Mono>) -> Result<Mono, AllocError> {
+    Ok(Mono::Con(entity(alloc, b"M", text)?, arguments))
+}
+
+fn syntax(alloc: Global, text: &[u8], arguments: Items<Mono>) -> Result<Mono, AllocError> {
+    Ok(Mono::Con(entity(alloc, b"Prelude", text)?, arguments))
+}
+
+fn int(alloc: Global) -> Result<Mono, AllocError> {
+    con(alloc, b"Int", none(alloc))
+}
+
+fn maybe(alloc: Global, ty: Mono) -> Result<Mono, AllocError> {
+    con(alloc, b"Maybe", one(alloc, ty)?)
+}
+
+fn list(alloc: Global, ty: Mono) -> Result<Mono, AllocError> {
+    syntax(alloc, b"[]", one(alloc, ty)?)
+}
+
+fn pair(alloc: Global, first: Mono, second: Mono) -> Result<Mono, AllocError> {
+    syntax(alloc, b"(,)", two(alloc, first, second)?)
+}
+
+fn fun(alloc: Global, from: Mono, to: Mono) -> Result<Mono, AllocError> {
+    Ok(Mono::Fun(Boxed::new(alloc, from)?, Boxed::new(alloc, to)?))
+}
+
+fn name(
+    alloc: Global,
+    of: &[u8],
+    qualifier: Option<Text>,
+    text: &[u8],
+) -> Result<(Entity, Name), AllocError> {
+    let name = Name {
+        qualifier,
+        text: Text::from_slice(alloc, text)?,
+    };
+    Ok((entity(alloc, b"M", of)?, name))
+}
+
+/// Int, Maybe, and Tree as Q.Tree; the variables a, b and c.
+fn scope(alloc: Global) -> Result<TypeScope, AllocError> {
+    let qualifier = Text::from_slice(alloc, b"Q")?;
+    let mut names = Vec::new(alloc);
+    names.push(name(alloc, b"Int", None, b"Int")?)?;
+    names.push(name(alloc, b"Maybe", None, b"Maybe")?)?;
+    names.push(name(alloc, b"Tree", Some(qualifier), b"Tree")?)?;
+    let mut variables = Vec::new(alloc);
+    variables.push(Text::from_slice(alloc, b"a")?)?;
+    variables.push(Text::from_slice(alloc, b"b")?)?;
+    variables.push(Text::from_slice(alloc, b"c")?)?;
+    Ok(TypeScope {
+        names: Seq { list: names },
+        variables: Seq { list: variables },
+    })
+}
+
+#[test]
+fn copies_are_the_same_type(rt: HostRuntime) -> Result<(), Fail> {
+    let alloc = rt.alloc();
+    let ty = fun(alloc, maybe(alloc, Mono::Var(0))?, list(alloc, int(alloc)?)?)?;
+    assert!(rt; ty.copied(alloc)?.is_same(&ty));
+    assert!(rt; !int(alloc)?.is_same(&maybe(alloc, int(alloc)?)?));
+    Ok(())
+}
+
+#[test]
+fn an_instance_gives_each_bound_variable_one_type(rt: HostRuntime) -> Result<(), Fail> {
+    let alloc = rt.alloc();
+    let general = Scheme {
+        bound: 1,
+        body: fun(alloc, Mono::Var(0), fun(alloc, Mono::Var(0), Mono::Var(1))?)?,
+    };
+    let list_of = list(alloc, Mono::Var(0))?;
+    let same = fun(
+        alloc,
+        list_of.copied(alloc)?,
+        fun(alloc, list_of, Mono::Var(1))?,
+    )?;
+    assert!(rt; instance(alloc, &general, &same)?);
+    let differs = fun(
+        alloc,
+        int(alloc)?,
+        fun(alloc, Mono::Var(0), Mono::Var(1))?,
+    )?;
+    assert!(rt; !instance(alloc, &general, &differs)?);
+    let free = fun(alloc, int(alloc)?, fun(alloc, int(alloc)?, int(alloc)?)?)?;
+    assert!(rt; !instance(alloc, &general, &free)?);
+    Ok(())
+}
+
+/// Whether a type is written so, with the scope above; None for no text.
+fn is_written(
+    rt: &impl Abort,
+    alloc: Global,
+    ty: &Mono,
+    expected: Option<&[u8]>,
+) -> Result<bool, AllocError> {
+    assert!(rt; has_arities(ty));
+    let scope = scope(alloc)?;
+    let Some(text) = print_in(alloc, ty, &scope)? else {
+        return Ok(expected.is_none());
+    };
+    let Some(expected) = expected else {
+        return Ok(false);
+    };
+    Ok(text.as_slice() == expected)
+}
+
+#[test]
+fn arrows_go_to_the_right(rt: HostRuntime) -> Result<(), Fail> {
+    let alloc = rt.alloc();
+    let step = fun(alloc, Mono::Var(0), Mono::Var(1))?;
+    let ty = fun(
+        alloc,
+        step.copied(alloc)?,
+        fun(
+            alloc,
+            list(alloc, Mono::Var(0))?,
+            list(alloc, Mono::Var(1))?,
+        )?,
+    )?;
+    assert!(rt; is_written(&rt, alloc, &ty, Some(b"(a -> b) -> [a] -> [b]"))?);
+    assert!(rt; is_written(&rt, alloc, &list(alloc, step)?, Some(b"[a -> b]"))?);
+    Ok(())
+}
+
+#[test]
+fn brackets_hold_their_arguments_without_parentheses(rt: HostRuntime) -> Result<(), Fail> {
+    let alloc = rt.alloc();
+    let pairs = list(alloc, pair(alloc, Mono::Var(2), int(alloc)?)?)?;
+    assert!(rt; is_written(&rt, alloc, &pairs, Some(b"[(c, Int)]"))?);
+    let unit = syntax(alloc, b"()", none(alloc))?;
+    assert!(rt; is_written(&rt, alloc, &fun(alloc, unit, int(alloc)?)?, Some(b"() -> Int"))?);
+    Ok(())
+}
+
+#[test]
+fn arguments_stand_in_parentheses_where_they_need_them(rt: HostRuntime) -> Result<(), Fail> {
+    let alloc = rt.alloc();
+    let nested = maybe(alloc, maybe(alloc, int(alloc)?)?)?;
+    assert!(rt; is_written(&rt, alloc, &nested, Some(b"Maybe (Maybe Int)"))?);
+    let step = fun(alloc, int(alloc)?, Mono::Var(0))?;
+    let tree = con(alloc, b"Tree", two(alloc, step, list(alloc, int(alloc)?)?)?)?;
+    assert!(rt; is_written(&rt, alloc, &tree, Some(b"Q.Tree (Int -> a) [Int]"))?);
+    Ok(())
+}
+
+#[test]
+fn what_has_no_name_has_no_text(rt: HostRuntime) -> Result<(), Fail> {
+    let alloc = rt.alloc();
+    assert!(rt; is_written(&rt, alloc, &maybe(alloc, Mono::Var(3))?, None)?);
+    let strange = con(alloc, b"Strange", none(alloc))?;
+    assert!(rt; is_written(&rt, alloc, &list(alloc, strange)?, None)?);
+    Ok(())
+}

@@ -1,0 +1,10 @@
+pub mod Binding
+pub mod Finding
+pub mod Keeping
+pub mod Lists
+pub mod Loads
+pub mod Meaning
+pub mod Relates
+pub mod Solving
+pub mod Unifying
+pub mod Values

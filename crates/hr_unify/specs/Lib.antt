@@ -1,0 +1,4 @@
+pub mod Refusals
+pub mod Unifiers
+pub mod Weights
+pub mod Working
