@@ -1,2 +1,24 @@
-mod Items
-mod Numbers
+pub mod Agreeing
+pub mod Bytes
+pub mod ClosedRead
+pub mod EscapesRead
+pub mod FrontRuns
+pub mod Halts
+pub mod Instances
+pub mod Marks
+pub mod NamesRead
+pub mod NumbersRead
+pub mod Pieces
+pub mod PiecesRead
+pub mod Progress
+pub mod QualifiedRead
+pub mod QuotesRead
+pub mod RunsRead
+pub mod Splits
+pub mod Statements
+pub mod Steps
+pub mod StringRead
+pub mod TriviaRead
+pub mod Whence
+pub mod Whole
+pub mod Words

@@ -1,1 +1,7 @@
-pub mod Plain
+pub mod LexemeReader
+pub mod Marks
+pub mod NameReader
+pub mod NumberReader
+pub mod QuoteReader
+pub mod Refusals
+pub mod TriviaReader

@@ -1,69 +1,174 @@
-ghost use Rattle.std.specs.Prelude.{◌≡◌, IfOk};
-ghost use Rattle.hr_lexer.specs.Plain.{ArePlain, IsItem};
+//! The lexer's one call.
+ghost use Rattle.std.specs.Prelude.{◌≡◌, ◌<◌, ◌≤◌, ◌++◌, ◌∷◌, [], true, length, IfErr, IfOk, IfSome};
+ghost use Rattle.std.specs.Str.{all_scalars, encode_utf8_all};
+ghost use Rattle.hr_rules.specs.Lexemes.{class_of, is_piece, bars, led_by, LexesText};
+ghost use Rattle.hr_rules.specs.Lexing.{Lexes};
+ghost use Rattle.hr_lexer.specs.Refusals.{cause_of, IsHalt, IsRefusal};
+ghost use Rattle.hr_lexer.specs.Marks.{mark_count};
+ghost use Rattle.hr_lexer.specs.LexemeReader.{lexeme_at, special_at};
 
-use crate::classes::class_of;
-use crate::scan::{lexeme_len, trivia_len};
+use crate::LexError;
+use crate::comments::{opens, trivia_len};
+use crate::names::{conid_at, symbols_at, word_at};
+use crate::numbers::number_at;
+use crate::quotes::{char_at_quote, string_at_quote};
+use crate::source::{Source, split};
+use crate::taken::Taken;
 use hr_base::{Class, Item, Items, Lexeme, Seq, Text};
-use std::alloc::{AllocError, AllocFailed, Global};
-use thiserror::Error;
+use hr_rules::{Kind, kind_of};
+use std::alloc::{AllocError, Global};
+use std::str;
 
-/// Why a text has no items.
-#[derive(Clone, Copy, Debug, Error, PartialEq, Eq)]
-pub enum LexError {
-    #[error("not one of the lexemes that are read so far")]
-    NotBuilt,
-    #[error("out of memory")]
-    Memory(AllocError),
-}
+const LONGEST_TEXT: usize = 1_048_576;
 
-impl From<AllocError> for LexError {
-    fn from(error: AllocError) -> LexError {
-        LexError::Memory(error)
-    }
-}
-
-impl<T: Drop> From<AllocFailed<T>> for LexError {
-    fn from(_error: AllocFailed<T>) -> LexError {
-        LexError::Memory(AllocError)
-    }
-}
-
-/// The items of a text whose lexemes are ASCII varids, integers, `(`, `)` and `=`, and whose
-/// trivia are spaces, LF and line comments.
+/// The items of a text.
 pub fn lex(alloc: Global, bytes: &[u8]) -> Result<Items, LexError>
-    ensures { IfOk result (ArePlain bytes.now) }
+    ensures read { IfOk result (λ items. LexesText bytes.now items) }
+    ensures refused { IfErr result (λ error. IsRefusal bytes.now error) }
 {
-    if str::from_utf8(bytes).is_err() {
-        return Err(LexError::NotBuilt);
+    if bytes.len() > LONGEST_TEXT {
+        return Err(LexError::TooLong);
     }
-    let mut list = Vec::new(alloc);
-    let mut rest = bytes;
-    loop {
-        let (trivia, behind) = rest.split_at(trivia_len(rest));
-        if behind.is_empty() {
-            return Ok(Items {
-                list: Seq { list },
-                tail: Text::from_slice(alloc, trivia)?,
+    let text = match str::from_utf8(bytes) {
+        Ok(text) => text,
+        Err(error) => {
+            return Err(LexError::BadUtf8 {
+                place: error.valid_up_to(),
             });
         }
-        let (text, after) = behind.split_at(lexeme_len(behind));
-        let Some(class) = class_of(text) else {
-            return Err(LexError::NotBuilt);
-        };
-        let item = item_of(alloc, class, trivia, text)?;
-        list.push(item)?;
-        rest = after;
+    };
+    let characters: Vec<char> = text.chars().collect(alloc).map_err(LexError::Memory)?;
+    let source = Source {
+        characters: characters.as_slice(),
+        bytes,
+    };
+    let (mark, rest) = split(source, mark_count(source.characters));
+    let items = read_items(alloc, bytes.len(), rest)?;
+    led_by(alloc, mark, items).map_err(LexError::Memory)
+}
+
+/// 1 where a byte order mark begins the text, else 0.
+fn mark_count(text: &[char]) -> usize
+    ensures value { result ≡ mark_count text.now }
+    ensures within { result ≤ length text.now }
+{
+    match text {
+        ['\u{FEFF}', ..] => 1,
+        _ => 0,
     }
 }
 
-fn item_of(alloc: Global, class: Class, trivia: &[u8], text: &[u8]) -> Result<Item, AllocError>
-    ensures { IfOk result (IsItem class trivia.now text.now) }
+/// The items with these bytes put in front of the first trivia, or of the tail.
+fn led_by(alloc: Global, mark: &[u8], mut items: Items) -> Result<Items, AllocError>
+    ensures { IfOk result (λ led. led ≡ led_by mark.now items.list items.tail) }
 {
-    Ok(Item {
-        trivia: Text::from_slice(alloc, trivia)?,
-        lexeme: Lexeme {
-            class,
-            text: Text::from_slice(alloc, text)?,
-        },
+    match items.list.list.first_mut() {
+        Some(first) => first.trivia = with_front(alloc, mark, &first.trivia)?,
+        None => items.tail = with_front(alloc, mark, &items.tail)?,
+    }
+    Ok(items)
+}
+
+fn with_front(alloc: Global, front: &[u8], text: &Text) -> Result<Text, AllocError>
+    ensures { IfOk result (λ whole. whole ≡ front.now ++ text.now) }
+{
+    let mut bytes = Vec::from_slice(alloc, front)?;
+    bytes.extend_from_slice(text.as_slice())?;
+    Ok(Text { bytes })
+}
+
+/// The items of what is left of a text of this many bytes.
+fn read_items(alloc: Global, len: usize, source: Source) -> Result<Items, LexError>
+    requires spelled { source.bytes.now ≡ encode_utf8_all source.characters.now }
+    requires scalars { all_scalars source.characters.now ≡ true }
+    requires len { length source.bytes.now ≤ len }
+    ensures read { IfOk result (λ items. Lexes class_of is_piece bars source.entry.bytes.now items.list items.tail) }
+    ensures refused { IfErr result (λ error. IsHalt len source.entry.bytes.now error) }
+{
+    let mut list = Vec::new(alloc);
+    let mut left = source;
+    loop {
+        let (trivia, rest) = split(left, trivia_len(left.characters));
+        if rest.characters.is_empty() {
+            let tail = Text::from_slice(alloc, trivia).map_err(LexError::Memory)?;
+            return Ok(Items {
+                list: Seq { list },
+                tail,
+            });
+        }
+        let Some(taken) = lexeme_at(rest.characters) else {
+            return Err(cause_at(rest.characters, len - rest.bytes.len()));
+        };
+        let (text, behind) = split(rest, taken.len);
+        push_item(alloc, &mut list, trivia, taken.class, text).map_err(LexError::Memory)?;
+        left = behind;
+    }
+}
+
+/// Puts an item behind the others.
+fn push_item(
+    alloc: Global,
+    list: &mut Vec<Item>,
+    trivia: &[u8],
+    class: Class,
+    text: &[u8],
+) -> Result<(), AllocError>
+    ensures { IfOk result (λ u. list.new.items ≡ list.old.items ++ (record { trivia = trivia.now; lexeme = record { class = class; text = text.now } } ∷ [])) }
+{
+    let lexeme = Lexeme {
+        class,
+        text: Text::from_slice(alloc, text)?,
+    };
+    let trivia = Text::from_slice(alloc, trivia)?;
+    list.push(Item { trivia, lexeme })?;
+    Ok(())
+}
+
+/// The lexeme that begins the text, if one does.
+fn lexeme_at(text: &[char]) -> Option<Taken>
+    ensures value { result ≡ lexeme_at text.now }
+    ensures within { IfSome result (λ taken. taken.len ≤ length text.now) }
+    ensures some { IfSome result (λ taken. 0 < taken.len) }
+{
+    let (first, rest) = text.split_first()?;
+    match kind_of(*first) {
+        Kind::Small => Some(word_at(text)),
+        Kind::Large => conid_at(text),
+        Kind::Symbol => symbols_at(text),
+        Kind::Special => special_at(*first, rest),
+        Kind::Digit => number_at(text),
+        Kind::Quote => char_at_quote(rest),
+        Kind::DoubleQuote => string_at_quote(rest),
+        _ => None,
+    }
+}
+
+/// A bracket, comma, semicolon or backquote, unless a nested comment begins.
+fn special_at(first: char, rest: &[char]) -> Option<Taken>
+    ensures value { result ≡ special_at first rest.now }
+    ensures some { IfSome result (λ taken. taken.len ≡ 1) }
+{
+    if opens(first, rest) {
+        return None;
+    }
+    Some(Taken {
+        class: Class::Special,
+        len: 1,
     })
+}
+
+/// Why nothing fits at the place, where this text is left.
+fn cause_at(text: &[char], place: usize) -> LexError
+    ensures { result ≡ cause_of text.now place }
+{
+    let [first, rest @ ..] = text else {
+        return LexError::BadLexeme { place };
+    };
+    if opens(*first, rest) {
+        return LexError::OpenComment { place };
+    }
+    match kind_of(*first) {
+        Kind::Digit => LexError::LiteralTooWide { place },
+        _ => LexError::BadLexeme { place },
+    }
 }

@@ -1,11 +1,19 @@
-//! The lexemes of a module: for now those of the plain form.
+//! The lexer: the items of a text by the lexical rules, or the first place where they fail.
 #![tactic(auto)]
 
-mod classes;
+mod comments;
+mod error;
+mod escapes;
 mod lexing;
-mod scan;
+mod names;
+mod numbers;
+mod quotes;
+mod source;
+mod tables;
+mod taken;
 
-pub use lexing::{LexError, lex};
+pub use error::LexError;
+pub use lexing::lex;
 
 #[cfg(test)]
 mod tests;

@@ -8,8 +8,8 @@ use lib.Utf8.{encodes}
 use Rattle.hr_rules.specs.declared.character.Kind.{Kind}
 use Rattle.hr_rules.specs.Letters.{kind_of, is_newline, is_symbol}
 use Rattle.hr_rules.specs.Operators.{is_dash}
-use Rattle.hr_rules.specs.Runs.{is_run, stops}
-use Rattle.hr_rules.specs.Comments.{goes_on, begins_line_comment, is_in_line, is_nested_comment, opens, shuts, shut, closed_len, ends_there}
+use Rattle.hr_rules.specs.Runs.{is_run, stops, begins_with}
+use Rattle.hr_rules.specs.Comments.{goes_on, begins_line_comment, is_in_line, is_line_comment, is_nested_comment, opens, shuts, shut, closed_len, ends_there}
 use Rattle.hr_rules.specs.Lexemes.{is_empty, spelled_class, spelled_piece, spelled_piece_by, spelled_bars, spelled_bars_by, are_utf8, class_of, is_piece, bars}
 use Rattle.hr_rules.specs.Lexing.{AreApart}
 use Rattle.hr_rules.proofs.Lexing.{same_front}
@@ -94,15 +94,15 @@ begins_over (a ∷ []) after e is = absurd (true≢false (sym is))
 begins_over (a ∷ b ∷ rest) after e is = ap (λ x. (is_dash a && is_dash b) && not x) (goes_on_over rest after e) ∙ is
 
 -- what a text answers, a longer one answers too
-pub Keeps : Option ℕ → Option ℕ → Type 0
+unfoldable pub Keeps : Option ℕ → Option ℕ → Type 0
 Keeps x y = (m : ℕ) → x ≡ Some m → y ≡ Some m
 
-keeps_map : (x y : Option ℕ) → Keeps x y → Keeps (option_map suc x) (option_map suc y)
+pub keeps_map : (x y : Option ℕ) → Keeps x y → Keeps (option_map suc x) (option_map suc y)
 unfolding Keeps
 keeps_map None y k m e = cc
 keeps_map (Some n) y k m e = ap (option_map suc) (k n refl) ∙ e
 
-keeps_cond : (b : Bool) (x y u v : Option ℕ) → Keeps x u → Keeps y v → Keeps (cond b x y) (cond b u v)
+pub keeps_cond : (b : Bool) (x y u v : Option ℕ) → Keeps x u → Keeps y v → Keeps (cond b x y) (cond b u v)
 keeps_cond true x y u v p q = p
 keeps_cond false x y u v p q = q
 
