@@ -118,7 +118,7 @@ symbol_right c rest taken k e =
     taken_right Kind.Symbol c rest parts.1.0 taken k parts.0 parts.1.1 parts.1.2 parts.1.3
 
 -- an operator is read whole
-symbols_are : (c : ℕ) (front after : List ℕ) → is_symbol c ≡ true → (is_run is_symbol front after && not (is_dashes (c ∷ front))) ≡ true
+pub symbols_are : (c : ℕ) (front after : List ℕ) → is_symbol c ≡ true → (is_run is_symbol front after && not (is_dashes (c ∷ front))) ≡ true
     → symbols_at (c ∷ (front ++ after)) ≡ Some (record { class = run_class (c ∷ front); len = suc (length front) })
 symbols_are c front after s e =
     let text : List ℕ = c ∷ (front ++ after) in

@@ -225,7 +225,7 @@ large_split c run behind taken k all stop e =
     let e' : with_qualifier (suc (length run)) (behind_dot behind) ≡ Some taken = sym (conid_by_run c run behind (ap continues_name k) all stop) ∙ e in
     (reserved_over run behind all ∙ free_behind (suc (length run)) behind taken stop e', conid_parts run behind taken all stop e')
 
-large_right : ReadsRight Kind.Large
+pub large_right : ReadsRight Kind.Large
 large_right c rest taken k e =
     let n : ℕ = prefix_len is_in_name rest in
     let parts : (qualifies_reserved rest ≡ false) × ReadParts conid_class rest taken =
