@@ -1,15 +1,27 @@
 -- What the readers meet, all together.
+use Rattle.hr_lexer.proofs.NamesRead.{small, symbol, special}
+use Rattle.hr_lexer.proofs.PiecesRead.{piece_right, piece_found}
 use Rattle.hr_lexer.proofs.Progress.{Readers}
+use Rattle.hr_lexer.proofs.QualifiedFound.{large_reads}
+use Rattle.hr_lexer.proofs.QuotesRead.{quote_reads, double_quote_reads}
 use Rattle.hr_lexer.proofs.Whole.{EachKind, lexeme_right, lexeme_longest}
 
--- to be filled in: the seven kinds of lexeme, and the two facts of blanks and comments
+-- still to be filled in: the digits
 each_kind : EachKind
-each_kind = ?
+each_kind = record {
+  small = small;
+  large = large_reads;
+  symbol = symbol;
+  special = special;
+  digit = ?;
+  quote = quote_reads;
+  double_quote = double_quote_reads;
+}
 
 pub readers : Readers
 readers = record {
   right = lexeme_right each_kind;
   longest = lexeme_longest each_kind;
-  piece_right = ?;
-  piece_found = ?;
+  piece_right = piece_right;
+  piece_found = piece_found;
 }

@@ -11,6 +11,7 @@ pub mod NumbersRead
 pub mod Pieces
 pub mod PiecesRead
 pub mod Progress
+pub mod QualifiedFound
 pub mod QualifiedRead
 pub mod QuotesRead
 pub mod RunsRead

@@ -92,7 +92,7 @@ reserved_read (e ∷ w) is =
     ∙ ap (λ b. Some (record { class = cond b Class.ReservedId Class.VarId; len = prefix_len is_in_name (e ∷ w) })) is
 
 -- behind a run of what may stand in names
-conid_over : (run rest after : List ℕ) → list_all is_in_name run ≡ true → conid_class (run ++ rest) after ≡ conid_class rest after
+pub conid_over : (run rest after : List ℕ) → list_all is_in_name run ≡ true → conid_class (run ++ rest) after ≡ conid_class rest after
 conid_over [] rest after all = refl
 conid_over (c ∷ run) rest after all =
     ap (λ b. cond b (conid_class (run ++ rest) after) (cond (c == 46) (qualified (name_class (run ++ rest) after)) None)) (both_left (is_in_name c) (list_all is_in_name run) all)
@@ -104,7 +104,7 @@ conid_ends (c ∷ run) after all stop =
     ap (λ b. cond b (conid_class run after) (cond (c == 46) (qualified (name_class run after)) None)) (both_left (is_in_name c) (list_all is_in_name run) all)
     ∙ conid_ends run after (both_right (is_in_name c) (list_all is_in_name run) all) stop
 
-reserved_over : (run rest : List ℕ) → list_all is_in_name run ≡ true → qualifies_reserved (run ++ rest) ≡ qualifies_reserved rest
+pub reserved_over : (run rest : List ℕ) → list_all is_in_name run ≡ true → qualifies_reserved (run ++ rest) ≡ qualifies_reserved rest
 reserved_over [] rest all = refl
 reserved_over (c ∷ run) rest all =
     ap (λ b. cond b (qualifies_reserved (run ++ rest)) (c == 46 && is_reserved_word (word (run ++ rest)))) (both_left (is_in_name c) (list_all is_in_name run) all)
@@ -213,7 +213,7 @@ conid_parts run [] taken all stop e = plain run [] taken all stop (some_is (reco
 conid_parts run (d ∷ tail) taken all stop e = conid_dot run d tail taken all (not_true (is_in_name d) stop) (d == 46) refl e
 
 -- a conid is read by its run
-conid_by_run : (c : ℕ) (run behind : List ℕ) → is_in_name c ≡ true → list_all is_in_name run ≡ true → stops is_in_name behind ≡ true
+pub conid_by_run : (c : ℕ) (run behind : List ℕ) → is_in_name c ≡ true → list_all is_in_name run ≡ true → stops is_in_name behind ≡ true
     → conid_at (c ∷ (run ++ behind)) ≡ with_qualifier (suc (length run)) (behind_dot behind)
 conid_by_run c run behind named all stop =
     let len : prefix_len is_in_name (c ∷ (run ++ behind)) ≡ suc (length run) = one_more is_in_name c (run ++ behind) named ∙ ap suc (run_len is_in_name run behind all stop) in
