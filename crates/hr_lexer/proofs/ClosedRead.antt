@@ -1,5 +1,5 @@
 -- The loop that looks for the end of a nested comment.
-use Rattle.std.proofs.Common.{◌≡◌, ◌≢◌, ◌<◌, ◌≤◌, ℕ, zero, suc, ◌+◌, ◌-◌, Bool, true, false, cond, ◌==◌, List, [], ◌∷◌, length, get_or, take, drop, Option, Some, None, refl, sym, ap, subst, ◌∙◌, true≢false, arith}
+use Rattle.std.proofs.Common.{◌≡◌, ◌≢◌, ◌≤◌, ℕ, zero, suc, ◌+◌, ◌-◌, true, false, ◌==◌, List, [], ◌∷◌, length, get_or, take, drop, Option, Some, None, refl, sym, ap, subst, ◌∙◌, true≢false, arith}
 use Rattle.std.specs.Option.{option_map}
 use Rattle.std.proofs.lemmas.List.{take_rest}
 use Rattle.hr_rules.specs.Comments.{opens, shuts, closed_len}
@@ -40,7 +40,7 @@ opened_at text (b ∷ rest) c depth at is =
     let shallow : depth + length (c ∷ b ∷ rest) ≤ length text = at.shallow in
     let more : suc depth ≡ depth + 1 = omega arith in
     let whole : read text rest (closed_len false (suc depth) rest) ≡ closed_len false 0 text =
-        sym (behind_mark text rest c b (suc depth) left) ∙ ap (λ o. read text (c ∷ b ∷ rest) (past_first o (shuts c (b ∷ rest)) depth (b ∷ rest))) (sym is) ∙ at.same in
+    sym (behind_mark text rest c b (suc depth) left) ∙ ap (λ o. read text (c ∷ b ∷ rest) (past_first o (shuts c (b ∷ rest)) depth (b ∷ rest))) (sym is) ∙ at.same in
     record {
       left = omega arith;
       shallow = omega arith;
@@ -55,9 +55,9 @@ shut_at text (b ∷ rest) c (suc depth) at unopened is some =
     let shallow : suc depth + length (c ∷ b ∷ rest) ≤ length text = at.shallow in
     let less : depth ≡ suc depth - 1 = omega arith in
     let whole : read text rest (closed_len false depth rest) ≡ closed_len false 0 text =
-        sym (behind_mark text rest c b depth left)
-        ∙ ap (λ s. read text (c ∷ b ∷ rest) (past_first false s (suc depth) (b ∷ rest))) (sym is)
-        ∙ ap (λ o. read text (c ∷ b ∷ rest) (past_first o (shuts c (b ∷ rest)) (suc depth) (b ∷ rest))) (sym unopened) ∙ at.same in
+    sym (behind_mark text rest c b depth left)
+    ∙ ap (λ s. read text (c ∷ b ∷ rest) (past_first false s (suc depth) (b ∷ rest))) (sym is)
+    ∙ ap (λ o. read text (c ∷ b ∷ rest) (past_first o (shuts c (b ∷ rest)) (suc depth) (b ∷ rest))) (sym unopened) ∙ at.same in
     record {
       left = omega arith;
       shallow = omega arith;

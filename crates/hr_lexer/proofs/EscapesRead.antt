@@ -1,5 +1,5 @@
 -- An escape that ends in a text is the same with more text behind it.
-use Rattle.std.proofs.Common.{◌≡◌, ◌<◌, ◌≤◌, ℕ, zero, suc, ◌+◌, Bool, true, false, cond, ◌==◌, ◌&&◌, List, [], ◌∷◌, ◌++◌, length, take, drop, Option, Some, None, refl, sym, ap, subst, ◌∙◌, true≢false, arith, nat_le, length-drop}
+use Rattle.std.proofs.Common.{◌≡◌, ◌<◌, ◌≤◌, ℕ, suc, ◌+◌, Bool, true, false, cond, ◌==◌, ◌&&◌, List, [], ◌∷◌, ◌++◌, length, take, drop, Option, Some, None, refl, sym, ap, ◌∙◌, arith, nat_le, length-drop}
 use Rattle.std.specs.List.{list_all, prefix_len}
 use Rattle.std.specs.Option.{option_map}
 use Rattle.std.specs.Char.{is_digit}
@@ -26,18 +26,20 @@ code_over base x after p q e le =
 
 code_agree : (base : ℕ) (x after : List ℕ) (n : ℕ) → n < length x → Agree n (code_len base x) (code_len base (x ++ after))
 code_agree base x after n less = (
-    (λ e.
-        let same : p ≡ n = two_tests (p == 0) (is_code (value_of base (take p x))) p n e in
-        let lt : p < length x = omega arith in
-        code_over base x after p q (run_over (λ c. is_digit c base) x after lt) (omega arith) ∙ e),
-    (λ e.
-        let same : q ≡ n = two_tests (q == 0) (is_code (value_of base (take q (x ++ after)))) q n e in
-        let lt : q < length x = omega arith in
-        let one : q ≡ p = run_under (λ c. is_digit c base) x after lt in
-        sym (code_over base x after p q one (omega arith)) ∙ e))
+  (λ e.
+      let same : p ≡ n = two_tests (p == 0) (is_code (value_of base (take p x))) p n e in
+      let lt : p < length x = omega arith in
+      code_over base x after p q (run_over (λ c. is_digit c base) x after lt) (omega arith) ∙ e),
+  (λ e.
+      let same : q ≡ n = two_tests (q == 0) (is_code (value_of base (take q (x ++ after)))) q n e in
+      let lt : q < length x = omega arith in
+      let one : q ≡ p = run_under (λ c. is_digit c base) x after lt in
+      sym (code_over base x after p q one (omega arith)) ∙ e),
+)
   where
     p : ℕ
     p = prefix_len (λ c. is_digit c base) x
+
     q : ℕ
     q = prefix_len (λ c. is_digit c base) (x ++ after)
 
@@ -59,18 +61,20 @@ gap_over x after p q e less =
 
 gap_agree : (x after : List ℕ) (n : ℕ) → n < length x → Agree n (gap_len x) (gap_len (x ++ after))
 gap_agree x after n less = (
-    (λ e.
-        let same : p + 1 ≡ n = two_tests (p == 0) (begins_with backslash (drop p x)) (p + 1) n e in
-        let lt : p < length x = omega arith in
-        gap_over x after p q (run_over is_blank x after lt) lt ∙ e),
-    (λ e.
-        let same : q + 1 ≡ n = two_tests (q == 0) (begins_with backslash (drop q (x ++ after))) (q + 1) n e in
-        let lt : q < length x = omega arith in
-        let one : q ≡ p = run_under is_blank x after lt in
-        sym (gap_over x after p q one (omega arith)) ∙ e))
+  (λ e.
+      let same : p + 1 ≡ n = two_tests (p == 0) (begins_with backslash (drop p x)) (p + 1) n e in
+      let lt : p < length x = omega arith in
+      gap_over x after p q (run_over is_blank x after lt) lt ∙ e),
+  (λ e.
+      let same : q + 1 ≡ n = two_tests (q == 0) (begins_with backslash (drop q (x ++ after))) (q + 1) n e in
+      let lt : q < length x = omega arith in
+      let one : q ≡ p = run_under is_blank x after lt in
+      sym (gap_over x after p q one (omega arith)) ∙ e),
+)
   where
     p : ℕ
     p = prefix_len is_blank x
+
     q : ℕ
     q = prefix_len is_blank (x ++ after)
 
@@ -110,12 +114,13 @@ named_size (name ∷ names) text n long e =
 
 named_agree : (x after : List ℕ) (n : ℕ) → n < length x → Agree n (named_len ascii_names x) (named_len ascii_names (x ++ after))
 named_agree x after n less = (
-    (λ e.
-        let size : 2 ≤ n = named_size ascii_names x n refl e in
-        named_over ascii_names x after refl (omega arith) ∙ e),
-    (λ e.
-        let size : 2 ≤ n = named_size ascii_names (x ++ after) n refl e in
-        sym (named_over ascii_names x after refl (omega arith)) ∙ e))
+  (λ e.
+      let size : 2 ≤ n = named_size ascii_names x n refl e in
+      named_over ascii_names x after refl (omega arith) ∙ e),
+  (λ e.
+      let size : 2 ≤ n = named_size ascii_names (x ++ after) n refl e in
+      sym (named_over ascii_names x after refl (omega arith)) ∙ e),
+)
 
 -- controls
 control_size : (text : List ℕ) (n : ℕ) → control_len text ≡ Some n → 2 ≡ n
@@ -140,16 +145,16 @@ escape_agree (c ∷ x) after n less =
     let rest : (base m : ℕ) → n ≡ suc m → Agree m (code_len base x) (code_len base (x ++ after)) = λ base m e. code_agree base x after m (omega arith) in
     let names = named_agree (c ∷ x) after n whole in
     let control : Agree n (cond (c == 94) (control_len x) (named_len ascii_names (c ∷ x))) (cond (c == 94) (control_len (x ++ after)) (named_len ascii_names (c ∷ (x ++ after)))) =
-        agree_cond (c == 94) n (control_len x) (named_len ascii_names (c ∷ x)) (control_len (x ++ after)) (named_len ascii_names (c ∷ (x ++ after))) (control_agree x after n whole) names in
+    agree_cond (c == 94) n (control_len x) (named_len ascii_names (c ∷ x)) (control_len (x ++ after)) (named_len ascii_names (c ∷ (x ++ after))) (control_agree x after n whole) names in
     let hexadecimal = agree_cond (c == 120) n (option_map (λ n. n + 1) (code_len 16 x)) (cond (c == 94) (control_len x) (named_len ascii_names (c ∷ x)))
-        (option_map (λ n. n + 1) (code_len 16 (x ++ after))) (cond (c == 94) (control_len (x ++ after)) (named_len ascii_names (c ∷ (x ++ after))))
-        (agree_plus n (code_len 16 x) (code_len 16 (x ++ after)) (rest 16)) control in
+    (option_map (λ n. n + 1) (code_len 16 (x ++ after))) (cond (c == 94) (control_len (x ++ after)) (named_len ascii_names (c ∷ (x ++ after))))
+    (agree_plus n (code_len 16 x) (code_len 16 (x ++ after)) (rest 16)) control in
     let octal = agree_cond (c == 111) n (option_map (λ n. n + 1) (code_len 8 x)) (cond (c == 120) (option_map (λ n. n + 1) (code_len 16 x)) (cond (c == 94) (control_len x) (named_len ascii_names (c ∷ x))))
-        (option_map (λ n. n + 1) (code_len 8 (x ++ after))) (cond (c == 120) (option_map (λ n. n + 1) (code_len 16 (x ++ after))) (cond (c == 94) (control_len (x ++ after)) (named_len ascii_names (c ∷ (x ++ after)))))
-        (agree_plus n (code_len 8 x) (code_len 8 (x ++ after)) (rest 8)) hexadecimal in
+    (option_map (λ n. n + 1) (code_len 8 (x ++ after))) (cond (c == 120) (option_map (λ n. n + 1) (code_len 16 (x ++ after))) (cond (c == 94) (control_len (x ++ after)) (named_len ascii_names (c ∷ (x ++ after)))))
+    (agree_plus n (code_len 8 x) (code_len 8 (x ++ after)) (rest 8)) hexadecimal in
     let decimal = agree_cond (is_decimal c) n (code_len 10 (c ∷ x)) (cond (c == 111) (option_map (λ n. n + 1) (code_len 8 x)) (cond (c == 120) (option_map (λ n. n + 1) (code_len 16 x)) (cond (c == 94) (control_len x) (named_len ascii_names (c ∷ x)))))
-        (code_len 10 (c ∷ (x ++ after))) (cond (c == 111) (option_map (λ n. n + 1) (code_len 8 (x ++ after))) (cond (c == 120) (option_map (λ n. n + 1) (code_len 16 (x ++ after))) (cond (c == 94) (control_len (x ++ after)) (named_len ascii_names (c ∷ (x ++ after))))))
-        (code_agree 10 (c ∷ x) after n whole) octal in
+    (code_len 10 (c ∷ (x ++ after))) (cond (c == 111) (option_map (λ n. n + 1) (code_len 8 (x ++ after))) (cond (c == 120) (option_map (λ n. n + 1) (code_len 16 (x ++ after))) (cond (c == 94) (control_len (x ++ after)) (named_len ascii_names (c ∷ (x ++ after))))))
+    (code_agree 10 (c ∷ x) after n whole) octal in
     agree_cond (among letter_escapes c) n (Some 1) (cond (is_decimal c) (code_len 10 (c ∷ x)) (cond (c == 111) (option_map (λ n. n + 1) (code_len 8 x)) (cond (c == 120) (option_map (λ n. n + 1) (code_len 16 x)) (cond (c == 94) (control_len x) (named_len ascii_names (c ∷ x))))))
     (Some 1) (cond (is_decimal c) (code_len 10 (c ∷ (x ++ after))) (cond (c == 111) (option_map (λ n. n + 1) (code_len 8 (x ++ after))) (cond (c == 120) (option_map (λ n. n + 1) (code_len 16 (x ++ after))) (cond (c == 94) (control_len (x ++ after)) (named_len ascii_names (c ∷ (x ++ after)))))))
     one decimal

@@ -11,6 +11,7 @@ run_front p (x ∷ xs) = by (p x) refl (run_front p xs)
   where
     n : ℕ
     n = prefix_len p xs
+
     by : (b : Bool) → p x ≡ b → is_run p (take n xs) (drop n xs) ≡ true → is_run p (take (cond b (1 + n) 0) (x ∷ xs)) (drop (cond b (1 + n) 0) (x ∷ xs)) ≡ true
     by true e behind =
         subst (λ k. is_run p (take k (x ∷ xs)) (drop k (x ∷ xs)) ≡ true) (sym (one-add n))

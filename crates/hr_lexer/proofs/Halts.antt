@@ -44,7 +44,7 @@ wide longest c cs k e false w =
     absurd (none_some (sym e ∙ found.1))
 
 module _ (longest : LexemeLongest) (len : ℕ) (bytes : List ℕ) (c : ℕ) (cs : List ℕ) (place : ℕ) (here : place + length (encodes (c ∷ cs)) ≡ len) (s : scalars (c ∷ cs) ≡ true)
-  (stops : Stops class_of is_piece bars bytes (encodes (c ∷ cs))) (none : lexeme_at (c ∷ cs) ≡ None) where
+    (stops : Stops class_of is_piece bars bytes (encodes (c ∷ cs))) (none : lexeme_at (c ∷ cs) ≡ None) where
   it : (Left : List ℕ → Type 0) → Left (c ∷ cs) → Halts len bytes place Left
   it Left left = (encodes (c ∷ cs), here, stops, subst Left (sym (chars-encodes (c ∷ cs) s)) left)
 

@@ -24,21 +24,21 @@ marked : (cs : List ℕ) → mark_len (encode 0xFEFF ++ encodes cs) ≡ length (
 unfolding encode
 marked cs = refl
 
-unmarked_by : (c : ℕ) (cs : List ℕ) → (c == 0xFEFF) ≡ false → (b : Bool) → starts_with nat_eq (encode c ++ encodes cs) byte_order_mark ≡ b → cond b 3 0 ≡ 0
+unmarked_by : (c : ℕ) (cs : List ℕ) → (c == 0xFEFF) ≡ false → (b : Bool) → starts_with nat_eq (encode c ++ encodes cs) byte_order_mark ≡ b → ◌≡◌ {A = ℕ} (cond b 3 0) 0
 unmarked_by c cs e false s = refl
 unmarked_by c cs e true s =
     let same = encode_same c 0xFEFF (encodes cs) (drop 3 (encode c ++ encodes cs)) (begins_mark (encode c ++ encodes cs) s) in
     absurd (true≢false (sym (eq-eqb c 0xFEFF same.0) ∙ e))
+
+mark_alone : length (encode 0xFEFF) ≡ length (encodes (0xFEFF ∷ []))
+unfolding encode
+mark_alone = refl
 
 by_mark : (c : ℕ) (cs : List ℕ) (b : Bool) → (c == 0xFEFF) ≡ b → mark_len (encode c ++ encodes cs) ≡ length (encodes (take (cond b 1 0) (c ∷ cs)))
 by_mark c cs false e = unmarked_by c cs e (starts_with nat_eq (encode c ++ encodes cs) byte_order_mark) refl
 by_mark c cs true e =
     let same : c ≡ 0xFEFF = eqb-true c 0xFEFF e in
     ap (λ x. mark_len (encode x ++ encodes cs)) same ∙ marked cs ∙ mark_alone ∙ ap (λ x. length (encodes (x ∷ []))) (sym same)
-  where
-    mark_alone : length (encode 0xFEFF) ≡ length (encodes (0xFEFF ∷ []))
-    unfolding encode
-    mark_alone = refl
 
 mark_is : (cs : List ℕ) → mark_len (encodes cs) ≡ length (encodes (take (mark_count cs) cs))
 mark_is [] = refl

@@ -1,22 +1,20 @@
 -- Names, operators and special characters are read as the rules say.
-use Rattle.std.proofs.Common.{◌≡◌, ◌<◌, ◌≤◌, ℕ, zero, suc, ◌+◌, Bool, true, false, cond, not, ◌&&◌, ◌==◌, nat_lt, List, [], ◌∷◌, ◌++◌, length, take, drop, Option, Some, None, refl, sym, ap, subst, ◌∙◌, true≢false, arith}
-use Rattle.std.specs.List.{list_all, list_any, prefix_len}
-use Rattle.std.specs.Option.{IsSome, is_some}
+use Rattle.std.proofs.Common.{◌≡◌, ◌≤◌, ℕ, suc, Bool, true, false, cond, not, ◌&&◌, ◌==◌, nat_lt, List, [], ◌∷◌, ◌++◌, length, take, drop, Some, None, refl, sym, ap, subst, ◌∙◌, true≢false, arith}
+use Rattle.std.specs.List.{list_all, prefix_len}
 use Rattle.std.proofs.lemmas.List.Sums.{prefix_len-le-length}
 use Rattle.std.proofs.Math.Seq.{take-append_seam}
 use Rattle.hr_base.specs.declared.lexeme.Class.{Class}
 use Rattle.hr_rules.specs.declared.character.Kind.{Kind}
 use Rattle.hr_rules.specs.Letters.{kind_of, continues_name, is_symbol_kind, is_in_name, is_symbol}
-use Rattle.hr_rules.specs.Runs.{is_run, stops}
+use Rattle.hr_rules.specs.Runs.{is_run}
 use Rattle.hr_rules.specs.Names.{word_class, small_class}
 use Rattle.hr_rules.specs.Operators.{is_dash, is_dashes, run_class, symbol_class}
 use Rattle.hr_rules.specs.Comments.{goes_on, begins_line_comment, opens}
-use Rattle.hr_rules.specs.Lexemes.{is_empty}
 use Rattle.hr_rules.proofs.Apart.{both, both_left, both_right, not_true, and_false}
 use Rattle.hr_lexer.specs.declared.taken.Taken.{Taken}
 use Rattle.hr_lexer.specs.NameReader.{word_at, symbols_at}
 use Rattle.hr_lexer.proofs.Statements.{Reads, ReadsRight, ReadsLongest}
-use Rattle.hr_lexer.proofs.RunsRead.{one_more, no_run, run_more, behind_more, run_all, run_stops, whole_run, run_len, whole_run_len, some_is, none_some, some_test, len_of, class_in, taken_right, ReadParts}
+use Rattle.hr_lexer.proofs.RunsRead.{one_more, no_run, run_more, whole_run, whole_run_len, some_is, none_some, some_test, len_of, class_in, taken_right, ReadParts}
 
 -- words
 pub small_parts : (c : ℕ) (rest : List ℕ) (taken : Taken) → kind_of c ≡ Kind.Small → Some (word_at (c ∷ rest)) ≡ Some taken → ReadParts (small_class c) rest taken
@@ -108,9 +106,15 @@ symbol_parts c rest taken k e =
     let parts : (is_dashes (take n (c ∷ rest)) ≡ false) × (◌≡◌ {A = Taken} (record { class = run_class (take n (c ∷ rest)); len = n }) taken) =
     kept (is_dashes (take n (c ∷ rest))) (record { class = run_class (take n (c ∷ rest)); len = n }) taken e in
     let no : is_dashes (c ∷ run) ≡ false = sym (ap is_dashes (run_more is_symbol c rest s)) ∙ parts.0 in
-    let class : run_class (c ∷ run) ≡ taken.class = sym (ap run_class (run_more is_symbol c rest s)) ∙ ap class_in parts.1 in
-    (dashes_are c rest ∙ no, (prefix_len is_symbol rest, sym (ap len_of parts.1) ∙ one_more is_symbol c rest s, prefix_len-le-length is_symbol rest,
-    ap (λ b. cond b (Some (run_class (c ∷ run))) None) (both (is_run is_symbol run (drop (prefix_len is_symbol rest) rest)) (not (is_dashes (c ∷ run))) (whole_run is_symbol rest) (ap not no)) ∙ ap Some class))
+    let class : run_class (c ∷ run) ≡ taken.class = sym (ap run_class (run_more is_symbol c rest s)) ∙ ap class_in parts.1 in (
+      dashes_are c rest ∙ no,
+      (
+        prefix_len is_symbol rest,
+        sym (ap len_of parts.1) ∙ one_more is_symbol c rest s,
+        prefix_len-le-length is_symbol rest,
+        ap (λ b. cond b (Some (run_class (c ∷ run))) None) (both (is_run is_symbol run (drop (prefix_len is_symbol rest) rest)) (not (is_dashes (c ∷ run))) (whole_run is_symbol rest) (ap not no)) ∙ ap Some class,
+      ),
+    )
 
 symbol_right : ReadsRight Kind.Symbol
 symbol_right c rest taken k e =

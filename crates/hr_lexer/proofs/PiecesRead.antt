@@ -1,5 +1,5 @@
 -- Blanks and comments are read by their rules.
-use Rattle.std.proofs.Common.{◌≡◌, ◌≢◌, ◌<◌, ◌≤◌, ℕ, zero, suc, ◌+◌, Bool, true, false, cond, not, ◌&&◌, ◌==◌, List, [], ◌∷◌, ◌++◌, length, take, drop, Option, Some, None, refl, sym, ap, subst, ◌∙◌, true≢false, arith, length-drop, take-append-drop, length-take-le, take-add, drop-drop}
+use Rattle.std.proofs.Common.{◌≡◌, ◌≤◌, ℕ, zero, suc, ◌+◌, Bool, true, false, cond, not, ◌&&◌, ◌==◌, List, [], ◌∷◌, ◌++◌, length, take, drop, Option, Some, None, refl, sym, ap, subst, ◌∙◌, true≢false, arith, take-append-drop, length-take-le}
 use Rattle.std.specs.List.{list_all, prefix_len}
 use Rattle.std.specs.Option.{option_map}
 use Rattle.std.proofs.lemmas.List.Sums.{prefix_len-le-length}
@@ -10,7 +10,7 @@ use Rattle.hr_rules.specs.Runs.{is_run, stops}
 use Rattle.hr_rules.specs.Comments.{goes_on, begins_line_comment, is_in_line, is_line_comment, is_nested_comment, opens, shuts, shut, closed_len, ends_there}
 use Rattle.hr_rules.specs.Lexemes.{is_empty, spelled_piece, spelled_piece_by}
 use Rattle.hr_rules.proofs.Apart.{both_left, both_right, both, and_false, goes_on_over, begins_over, closed_over, ends, Keeps}
-use Rattle.hr_lexer.specs.TriviaReader.{line_comment_len, nested_comment_len, piece_len_by, piece_len}
+use Rattle.hr_lexer.specs.TriviaReader.{line_comment_len, nested_comment_len, piece_len_by}
 use Rattle.hr_lexer.proofs.Statements.{PieceRight, PieceFound}
 use Rattle.hr_lexer.proofs.FrontRuns.{run_front, run_len}
 
@@ -149,7 +149,7 @@ nested_read c (b ∷ rest) n e =
         let le : l ≤ length rest = at.0 in
         let cut : closed_len false 0 (take l rest) ≡ Some l = at.1 in
         let ends : ends_there (closed_len false 0 (take l rest)) (take l rest) ≡ true =
-            ap (λ x. ends_there x (take l rest)) cut ∙ ap (λ k. l == k) (length-take-le l rest le) ∙ equal_self l in
+        ap (λ x. ends_there x (take l rest)) cut ∙ ap (λ k. l == k) (length-take-le l rest le) ∙ equal_self l in
         (suc l, omega arith, omega arith, both (c == 123 && b == 45) (ends_there (closed_len false 0 (take l rest)) (take l rest)) mark ends)
 
 one_read : (kind : Kind) (c : ℕ) (rest : List ℕ) (n : ℕ) → spelled_piece_by kind c [] rest ≡ true → ◌≡◌ {A = Option ℕ} (Some 1) (Some n) → Piece kind c rest n

@@ -1,5 +1,5 @@
 -- Conids and qualified names are read whole, where they may begin.
-use Rattle.std.proofs.Common.{◌≡◌, ◌≢◌, ◌<◌, ◌≤◌, ℕ, zero, suc, ◌+◌, Bool, true, false, cond, not, ◌&&◌, ◌==◌, List, [], ◌∷◌, ◌++◌, length, take, drop, Option, Some, None, refl, sym, ap, subst, ◌∙◌, true≢false, arith, length-append, take-append-drop, append_assoc}
+use Rattle.std.proofs.Common.{◌≡◌, ◌≤◌, ℕ, suc, ◌+◌, Bool, true, false, cond, not, ◌&&◌, ◌==◌, List, [], ◌∷◌, ◌++◌, length, take, drop, Option, Some, None, refl, sym, ap, subst, ◌∙◌, true≢false, arith, length-append, take-append-drop, append_assoc}
 use Rattle.std.proofs.Math.Seq.{take-append_seam}
 use Rattle.std.specs.List.{list_all, prefix_len}
 use Rattle.std.specs.Option.{IsSome, is_some}
@@ -10,15 +10,15 @@ use Rattle.hr_rules.specs.Runs.{begins_with, is_run, stops}
 use Rattle.hr_rules.specs.Names.{is_reserved_word, word_class, small_class, large_class}
 use Rattle.hr_rules.specs.Operators.{is_dashes, is_reserved_operator, run_class, symbol_class}
 use Rattle.hr_rules.specs.Qualified.{qualified, name_class, name_class_by, conid_class, qualifies_reserved}
-use Rattle.hr_rules.proofs.Apart.{both_left, both_right, not_true}
+use Rattle.hr_rules.proofs.Apart.{not_true}
 use Rattle.hr_lexer.specs.declared.taken.Taken.{Taken}
 use Rattle.hr_lexer.specs.NameReader.{word_at, symbols_at, name_at, name_at_by, behind_dot, with_qualifier, with_qualifier_by, conid_at}
 use Rattle.hr_lexer.proofs.Statements.{Reads, ReadsLongest}
 use Rattle.hr_lexer.proofs.NamesRead.{kept, symbols_are}
-use Rattle.hr_lexer.proofs.RunsRead.{one_more, run_all, run_stops, whole_run_len, none_some, some_is, class_in}
+use Rattle.hr_lexer.proofs.RunsRead.{one_more, run_all, run_stops, whole_run_len, none_some, some_is}
 use Rattle.hr_lexer.proofs.QualifiedRead.{word, conid_over, reserved_over, conid_by_run, large_right}
 
--- a name that is read where a text begins, and is no reserved word by its kind
+-- the class of reserved words
 abbrev is_reserved_class : Class → Bool
 is_reserved_class Class.ReservedId = true
 is_reserved_class _ = false

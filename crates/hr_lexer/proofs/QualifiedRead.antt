@@ -1,5 +1,5 @@
 -- Conids and qualified names are read as the rules say.
-use Rattle.std.proofs.Common.{◌≡◌, ◌<◌, ◌≤◌, ℕ, zero, suc, ◌+◌, Bool, true, false, cond, not, ◌&&◌, ◌||◌, ◌==◌, ◌⊎◌, inl, inr, List, [], ◌∷◌, ◌++◌, length, take, drop, Option, Some, None, refl, sym, ap, subst, ◌∙◌, true≢false, arith, length-append, take-append-drop}
+use Rattle.std.proofs.Common.{◌≡◌, ◌≤◌, ℕ, suc, ◌+◌, Bool, true, false, cond, not, ◌&&◌, ◌||◌, ◌==◌, ◌⊎◌, inl, inr, List, [], ◌∷◌, ◌++◌, length, take, drop, Option, Some, None, refl, sym, ap, subst, ◌∙◌, true≢false, arith, length-append, take-append-drop}
 use Rattle.std.proofs.lemmas.List.Sums.{prefix_len-le-length}
 use Rattle.std.proofs.Math.Seq.{take-append_seam, drop-append_seam, take-append-add, drop-append-add}
 use Rattle.std.specs.List.{list_all, prefix_len}
@@ -10,10 +10,10 @@ use Rattle.hr_rules.specs.Runs.{begins_word, stops}
 use Rattle.hr_rules.specs.Names.{small_class, is_spelled, is_one_of, is_reserved_word, reserved_words}
 use Rattle.hr_rules.specs.Operators.{symbol_class}
 use Rattle.hr_rules.specs.Qualified.{qualified, name_class, name_class_by, conid_class, qualifies_reserved}
-use Rattle.hr_rules.proofs.Apart.{both, both_left, both_right, not_true}
+use Rattle.hr_rules.proofs.Apart.{both_left, both_right, not_true}
 use Rattle.hr_lexer.specs.declared.taken.Taken.{Taken}
-use Rattle.hr_lexer.specs.NameReader.{word_at, name_at, name_at_by, behind_dot, with_qualifier, with_qualifier_by, conid_at}
-use Rattle.hr_lexer.proofs.Statements.{Reads, ReadsRight, ReadsLongest}
+use Rattle.hr_lexer.specs.NameReader.{name_at, name_at_by, behind_dot, with_qualifier, with_qualifier_by, conid_at}
+use Rattle.hr_lexer.proofs.Statements.{ReadsRight}
 use Rattle.hr_lexer.proofs.NamesRead.{small_parts, symbol_parts}
 use Rattle.hr_lexer.proofs.RunsRead.{one_more, no_run, run_more, run_all, run_stops, whole_run, run_len, none_some, some_is, len_of, class_in, taken_right, ReadParts}
 
@@ -124,7 +124,6 @@ free_behind n (d ∷ tail) taken stop e =
     ap (λ b. cond b (qualifies_reserved tail) (d == 46 && is_reserved_word (word tail))) (not_true (is_in_name d) stop)
     ∙ free_by n d tail taken e (d == 46) refl (is_reserved_word (word tail)) refl
 
-
 -- a name without a qualifier, read where a text begins
 abbrev pub NamedRight : List ℕ → Taken → Type 0
 NamedRight text taken = (taken.len ≤ length text) × (name_class (take taken.len text) (drop taken.len text) ≡ Some taken.class)
@@ -164,9 +163,12 @@ named_right (c ∷ rest) taken e = named_by (kind_of c) c rest taken refl e
 plain : (run behind : List ℕ) (taken : Taken) → list_all is_in_name run ≡ true → stops is_in_name behind ≡ true
     → ◌≡◌ {A = Taken} (record { class = Class.ConId; len = suc (length run) }) taken → ReadParts conid_class (run ++ behind) taken
 plain run behind taken all stop is =
-    let within : length run ≤ length (run ++ behind) = omega (arith, length-append run behind) in
-    (length run, sym (ap len_of is), within,
-    ap (λ x. conid_class x (drop (length run) (run ++ behind))) (take-append_seam run behind) ∙ (ap (conid_class run) (drop-append_seam run behind) ∙ (conid_ends run behind all stop ∙ ap Some (ap class_in is))))
+    let within : length run ≤ length (run ++ behind) = omega (arith, length-append run behind) in (
+      length run,
+      sym (ap len_of is),
+      within,
+      ap (λ x. conid_class x (drop (length run) (run ++ behind))) (take-append_seam run behind) ∙ (ap (conid_class run) (drop-append_seam run behind) ∙ (conid_ends run behind all stop ∙ ap Some (ap class_in is))),
+    )
 
 -- a conid, a dot and a name
 dotted : (run : List ℕ) (d : ℕ) (tail : List ℕ) (name taken : Taken) → list_all is_in_name run ≡ true → is_in_name d ≡ false → (d == 46) ≡ true → name_at tail ≡ Some name
@@ -176,14 +178,17 @@ dotted run d tail name taken all stop dot named len class =
     let m : ℕ = length run + suc name.len in
     let len_m : taken.len ≡ suc m = omega (arith, len) in
     let size : length (run ++ (d ∷ tail)) ≡ length run + suc (length tail) = length-append run (d ∷ tail) in
-    let within : m ≤ length (run ++ (d ∷ tail)) = omega (arith, size, right.0) in
-    (m, len_m, within,
-    ap (λ x. conid_class x (drop m (run ++ (d ∷ tail)))) (take-append-add run (d ∷ tail) (suc name.len))
-    ∙ (ap (λ x. conid_class (run ++ (d ∷ take name.len tail)) x) (drop-append-add run (d ∷ tail) (suc name.len))
-    ∙ (conid_over run (d ∷ take name.len tail) (drop name.len tail) all
-    ∙ (ap (λ b. cond b (conid_class (take name.len tail) (drop name.len tail)) (cond (d == 46) (qualified (name_class (take name.len tail) (drop name.len tail))) None)) stop
-    ∙ (ap (λ b. cond b (qualified (name_class (take name.len tail) (drop name.len tail))) None) dot
-    ∙ (ap qualified right.1 ∙ class))))))
+    let within : m ≤ length (run ++ (d ∷ tail)) = omega (arith, size, right.0) in (
+      m,
+      len_m,
+      within,
+      ap (λ x. conid_class x (drop m (run ++ (d ∷ tail)))) (take-append-add run (d ∷ tail) (suc name.len))
+          ∙ (ap (λ x. conid_class (run ++ (d ∷ take name.len tail)) x) (drop-append-add run (d ∷ tail) (suc name.len))
+          ∙ (conid_over run (d ∷ take name.len tail) (drop name.len tail) all
+          ∙ (ap (λ b. cond b (conid_class (take name.len tail) (drop name.len tail)) (cond (d == 46) (qualified (name_class (take name.len tail) (drop name.len tail))) None)) stop
+          ∙ (ap (λ b. cond b (qualified (name_class (take name.len tail) (drop name.len tail))) None) dot
+          ∙ (ap qualified right.1 ∙ class))))),
+    )
 
 qualifier_by : (class : Class) (n m : ℕ) (taken : Taken) → with_qualifier_by class n m ≡ Some taken
     → ((taken.len ≡ n + 1 + m) × (qualified (Some class) ≡ Some taken.class)) ⊎ (◌≡◌ {A = Taken} (record { class = Class.ConId; len = n }) taken)

@@ -1,14 +1,12 @@
 -- Characters and strings are read by their rules.
 use Rattle.std.proofs.Common.{◌≡◌, ◌<◌, ◌≤◌, ℕ, zero, suc, ◌+◌, Bool, true, false, cond, ◌==◌, List, [], ◌∷◌, ◌++◌, length, take, drop, Option, Some, None, refl, sym, ap, subst, ◌∙◌, true≢false, arith, length-drop, length-take-le, take-append-drop}
-use Rattle.std.specs.Option.{IsSome, is_some, option_map}
+use Rattle.std.specs.Option.{IsSome, option_map}
 use Rattle.std.proofs.lemmas.List.{drop-append-le}
 use Rattle.hr_base.specs.declared.lexeme.Class.{Class}
 use Rattle.hr_rules.specs.declared.character.Kind.{Kind}
-use Rattle.hr_rules.specs.Letters.{kind_of}
-use Rattle.hr_rules.specs.Lexemes.{spelled_class, spelled_class_by, spelled_bars_by}
+use Rattle.hr_rules.specs.Lexemes.{spelled_class, spelled_class_by}
 use Rattle.hr_rules.specs.Quotes.{backslash, quote, double_quote, is_plain, is_closed, closed_behind, escape_len, char_len, string_escape_len, behind_escape, string_len_past, string_len, literal_class}
 use Rattle.hr_lexer.specs.declared.taken.Taken.{Taken}
-use Rattle.hr_lexer.specs.LexemeReader.{lexeme_at_by}
 use Rattle.hr_lexer.specs.QuoteReader.{literal}
 use Rattle.hr_lexer.proofs.Statements.{Reads}
 use Rattle.hr_lexer.proofs.PiecesRead.{some_if, some_suc}
@@ -47,11 +45,12 @@ behind_over x after k less =
 
 behind_agree : (x after : List ℕ) (k n : ℕ) → n ≤ suc (length x) → Agree n (closed_behind x (Some k)) (closed_behind (x ++ after) (Some k))
 behind_agree x after k n le = (
-    (λ e. let is = behind_is x k n e in behind_over x after k is.1 ∙ e),
-    (λ e.
-        let is = behind_is (x ++ after) k n e in
-        let size : k + 2 ≡ n = is.0 in
-        sym (behind_over x after k (omega arith)) ∙ e))
+  (λ e. let is = behind_is x k n e in behind_over x after k is.1 ∙ e),
+  (λ e.
+      let is = behind_is (x ++ after) k n e in
+      let size : k + 2 ≡ n = is.0 in
+      sym (behind_over x after k (omega arith)) ∙ e),
+)
 
 escaped_over : (x after : List ℕ) (n : ℕ) (o : Option ℕ) → escape_len x ≡ o → closed_behind x o ≡ Some n → closed_behind (x ++ after) (escape_len (x ++ after)) ≡ Some n
 escaped_over x after n None is e = no_some e

@@ -20,7 +20,7 @@ back_len n cs =
     omega arith
 
 module _ (readers : Readers) (whole : List ℕ) (items : List Item) (cs : List ℕ) (so_far : Progress whole items (encodes cs)) (s : scalars cs ≡ true)
-  (n : ℕ) (is_trivia : n ≡ trivia_len cs) (rest : List ℕ) (behind_trivia : rest ≡ drop n cs) where
+    (n : ℕ) (is_trivia : n ≡ trivia_len cs) (rest : List ℕ) (behind_trivia : rest ≡ drop n cs) where
   left : rest ≡ drop (trivia_len cs) cs
   left = behind_trivia ∙ ap (λ m. drop m cs) is_trivia
 

@@ -57,9 +57,9 @@ front_within (suc fuel) text = by (piece_len text) refl (λ m. front_within fuel
         let some : m ≤ length text = right.1 in
         let within : k ≤ length (drop m text) = behind.0 in
         let piece : spelled_piece (take m text) (take k (drop m text) ++ drop k (drop m text)) ≡ true =
-            ap (spelled_piece (take m text)) (take-append-drop k (drop m text)) ∙ right.2 in
+        ap (spelled_piece (take m text)) (take-append-drop k (drop m text)) ∙ right.2 in
         let whole : Trivia spelled_piece (take m text ++ take k (drop m text)) (drop k (drop m text)) =
-            more (take m text) (take k (drop m text)) (drop k (drop m text)) piece behind.1 in
+        more (take m text) (take k (drop m text)) (drop k (drop m text)) piece behind.1 in
         let front : take m text ++ take k (drop m text) ≡ take (m + k) text = sym (take-add m k text) in
         let back : drop k (drop m text) ≡ drop (m + k) text = drop-drop k m text in
         (omega (arith, length-drop m text), subst (λ x. Trivia spelled_piece x (drop (m + k) text)) front (subst (λ y. Trivia spelled_piece (take m text ++ take k (drop m text)) y) back whole))

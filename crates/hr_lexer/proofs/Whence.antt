@@ -14,9 +14,10 @@ use Rattle.hr_lexer.specs.Refusals.{longest_text, opens_comment, begins_wide, St
 led : {class_of : Classes} {is_piece : Pieces} {bars : Barriers} {bytes : List ℕ} {items : List Item} {trivia left : List ℕ} → Leads class_of is_piece bars bytes items trivia left → (front : List ℕ) × (bytes ≡ front ++ left)
 led (here trivia rest t) = (trivia, refl)
 led (past item rest items trivia left t fits leads) =
-    let behind = led leads in
-    (item.trivia ++ (item.lexeme.text ++ behind.0),
-      ap (λ x. item.trivia ++ (item.lexeme.text ++ x)) behind.1 ∙ ap (λ x. item.trivia ++ x) (sym (append_assoc item.lexeme.text behind.0 left)) ∙ sym (append_assoc item.trivia (item.lexeme.text ++ behind.0) left))
+    let behind = led leads in (
+      item.trivia ++ (item.lexeme.text ++ behind.0),
+      ap (λ x. item.trivia ++ (item.lexeme.text ++ x)) behind.1 ∙ ap (λ x. item.trivia ++ x) (sym (append_assoc item.lexeme.text behind.0 left)) ∙ sym (append_assoc item.trivia (item.lexeme.text ++ behind.0) left),
+    )
 
 at_end : (bytes front left : List ℕ) (place : ℕ) → bytes ≡ front ++ left → place + length left ≡ length bytes → drop place bytes ≡ left
 at_end bytes front left place e h =
@@ -30,7 +31,7 @@ module _ (bytes rest : List ℕ) (short : length bytes ≤ longest_text) (behind
       let left : List ℕ = h.0 in
       let front = led h.2.leads in
       let all : bytes ≡ (take (mark_len bytes) bytes ++ front.0) ++ left =
-          sym (take-append-drop (mark_len bytes) bytes) ∙ ap (λ x. take (mark_len bytes) bytes ++ x) (sym behind ∙ front.1) ∙ sym (append_assoc (take (mark_len bytes) bytes) front.0 left) in
+      sym (take-append-drop (mark_len bytes) bytes) ∙ ap (λ x. take (mark_len bytes) bytes ++ x) (sym behind ∙ front.1) ∙ sym (append_assoc (take (mark_len bytes) bytes) front.0 left) in
       let end : drop place bytes ≡ left = at_end bytes (take (mark_len bytes) bytes ++ front.0) left place all h.1 in
       (short, record { rest = left; here = h.1; stops = subst (λ x. Stops class_of is_piece bars x left) behind h.2 }, subst (λ x. Left (chars x)) (sym end) h.3)
 

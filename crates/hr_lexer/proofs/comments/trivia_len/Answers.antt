@@ -1,6 +1,6 @@
-use Rattle.std.proofs.Common.{◌≡◌, ◌<◌, Some, ap, ◌∙◌, sym, subst}
+use Rattle.std.proofs.Common.{◌≡◌, Some, ◌∙◌, sym}
 use Rattle.hr_lexer.specs.TriviaReader.{piece_len}
-use Rattle.hr_lexer.proofs.TriviaRead.{one_more, LoopAt}
+use Rattle.hr_lexer.proofs.TriviaRead.{one_more}
 use Rattle.hr_lexer.proofs.comments.trivia_len.Goals as goal
 
 pub loop-len-preserved : goal.loop-len-preserved

@@ -40,8 +40,8 @@ loop-rest-preserved c =
       scalars = ap scalars c.split-in-loop-rest.ensures.characters ∙ scalars_drop taken.len rest (ap scalars c.split.ensures.characters ∙ scalars_drop n left.characters.now c.loop-rest.invariant.scalars);
       place = omega arith;
       progress = stepped readers c.args.source.bytes.now c.loop-rest.list.items left.characters.now c.loop-rest.invariant.progress c.loop-rest.invariant.scalars
-        n c.trivia_len.ensures.value rest c.split.ensures.characters taken c.split.result.0.now c.split-in-loop-rest.result.0.now behind c.push_item.new.list.items
-        (sym c.lexeme_at.ensures.value ∙ c.in-Some.is) c.split.ensures.text c.split-in-loop-rest.ensures.text c.split-in-loop-rest.ensures.characters pushed;
+          n c.trivia_len.ensures.value rest c.split.ensures.characters taken c.split.result.0.now c.split-in-loop-rest.result.0.now behind c.push_item.new.list.items
+          (sym c.lexeme_at.ensures.value ∙ c.in-Some.is) c.split.ensures.text c.split-in-loop-rest.ensures.text c.split-in-loop-rest.ensures.characters pushed;
     }
 
 pub returns-then-is_empty-clause-read : goal.returns-then-is_empty-clause-read
@@ -64,5 +64,5 @@ returns-in_default-clause-refused c =
     let here : c.args.len - length c.split.result.1.bytes.now + length (encodes rest) ≡ c.args.len = omega arith in
     subst (λ e. IsHalt c.args.len c.args.source.bytes.now e) (sym c.cause_at.ensures)
     (halted readers c.args.source.bytes.now c.loop-rest.list.items left.characters.now c.loop-rest.invariant.progress c.loop-rest.invariant.scalars
-      n c.trivia_len.ensures.value rest c.split.ensures.characters c.args.len (c.args.len - length c.split.result.1.bytes.now)
-      (some_when c.is_empty.result (length rest) c.if-is_empty.false c.is_empty.ensures) (sym c.lexeme_at.ensures.value ∙ c.in_default.is) here)
+    n c.trivia_len.ensures.value rest c.split.ensures.characters c.args.len (c.args.len - length c.split.result.1.bytes.now)
+    (some_when c.is_empty.result (length rest) c.if-is_empty.false c.is_empty.ensures) (sym c.lexeme_at.ensures.value ∙ c.in_default.is) here)

@@ -1,4 +1,4 @@
-use Rattle.std.proofs.Common.{◌≡◌, ◌≤◌, ◌<◌, ◌-◌, List, ℕ, length, get_or, take, drop, ◌∷◌, Some, sym, ap, ◌∙◌, arith}
+use Rattle.std.proofs.Common.{◌≡◌, ◌≤◌, ◌-◌, List, ℕ, length, get_or, take, drop, ◌∷◌, Some, sym, ◌∙◌, arith}
 use Rattle.hr_rules.specs.Quotes.{string_escape_len}
 use Rattle.hr_lexer.proofs.ClosedRead.{first_and}
 use Rattle.hr_lexer.proofs.StringRead.{StringAt, escaped, unended}

@@ -1,4 +1,4 @@
-use Rattle.std.proofs.Common.{◌≡◌, ℕ, ◌<◌, ◌≤◌, List, length, take, drop, sym, ap, ◌∙◌, arith}
+use Rattle.std.proofs.Common.{◌≡◌, ◌≤◌, length, take, drop, ap, ◌∙◌, arith}
 use lib.Utf8.{encodes}
 use Rattle.hr_lexer.proofs.Splits.{front_len, front, back}
 use Rattle.hr_lexer.proofs.source.split.Goals as goal
