@@ -150,3 +150,60 @@ fraction_by false c rest e =
 pub fraction : (text : List ℕ) → Longest is_fraction (begins is_decimal text) text (fraction_len text)
 fraction [] = in_empty is_fraction refl
 fraction (c ∷ rest) = fraction_by (is_decimal c) c rest refl
+
+-- what makes a float of digits: a dot and a fraction, or an exponent
+abbrev pub is_float_part : List ℕ → Bool
+is_float_part [] = false
+is_float_part (c ∷ rest) = cond (c == 46) (is_fraction rest) (is_e c && is_exponent rest)
+
+abbrev pub begins_float_part : List ℕ → Bool
+begins_float_part [] = false
+begins_float_part (c ∷ rest) = cond (c == 46) (begins is_decimal rest) (is_e c && begins_exponent rest)
+
+dot_test : (b : Bool) (c : ℕ) → (c == 46) ≡ b → (x : List ℕ) → is_float_part (c ∷ x) ≡ cond b (is_fraction x) (is_e c && is_exponent x)
+dot_test b c e x = ap (λ z. cond z (is_fraction x) (is_e c && is_exponent x)) e
+
+float_part_by : (b : Bool) (c : ℕ) (rest : List ℕ) → (c == 46) ≡ b
+    → Longest is_float_part (cond b (begins is_decimal rest) (is_e c && begins_exponent rest)) (c ∷ rest) (cond b (with_more 1 (fraction_len rest)) (exponent_len (c ∷ rest)))
+float_part_by true c rest e = behind is_fraction is_float_part (begins is_decimal rest) c rest (fraction_len rest) refl (dot_test true c e) (fraction rest)
+float_part_by false c rest e =
+    agreeing has_exponent is_float_part (is_e c && begins_exponent rest) (c ∷ rest) (exponent_len (c ∷ rest))
+    (same_fronts has_exponent is_float_part c rest refl (dot_test false c e)) (exponent (c ∷ rest))
+
+pub float_part : (text : List ℕ) → Longest is_float_part (begins_float_part text) text (float_part_len text)
+float_part [] = in_empty is_float_part refl
+float_part (c ∷ rest) = float_part_by (c == 46) c rest refl
+
+-- behind the first digit of a float
+more_digits : (n k : ℕ) → with_more (suc n) k ≡ with_more 1 (with_more n k)
+more_digits n k = grind arith
+
+pub float_digit : (c : ℕ) (rest : List ℕ) → is_decimal c ≡ true → float_len (c ∷ rest) ≡ with_more 1 (float_len rest)
+float_digit c rest e =
+    let n : ℕ = digits_len 10 rest in
+    ap (λ k. with_more k (float_part_len (drop k (c ∷ rest)))) (one_more is_decimal c rest e) ∙ more_digits n (float_part_len (drop n rest))
+
+no_more : (n : ℕ) → with_more 0 n ≡ n
+no_more n = grind arith
+
+float_no_digit : (c : ℕ) (rest : List ℕ) → is_decimal c ≡ false → float_len (c ∷ rest) ≡ float_part_len (c ∷ rest)
+float_no_digit c rest e =
+    ap (λ k. with_more k (float_part_len (drop k (c ∷ rest)))) (no_run is_decimal c rest e) ∙ no_more (float_part_len (c ∷ rest))
+
+float_test : (b : Bool) (c : ℕ) → is_decimal c ≡ b → (x : List ℕ) → ends_float (c ∷ x) ≡ cond b (ends_float x) (is_float_part (c ∷ x))
+float_test b c e x = ap (λ z. cond z (ends_float x) (is_float_part (c ∷ x))) e
+
+float_by : (b : Bool) (c : ℕ) (rest : List ℕ) → is_decimal c ≡ b → Longest ends_float (begins_float rest) rest (float_len rest)
+    → Longest ends_float (cond b (begins_float rest) (begins_float_part (c ∷ rest))) (c ∷ rest) (float_len (c ∷ rest))
+float_by true c rest e l =
+    subst (Longest ends_float (begins_float rest) (c ∷ rest)) (sym (float_digit c rest e))
+    (behind ends_float ends_float (begins_float rest) c rest (float_len rest) refl (float_test true c e) l)
+float_by false c rest e l =
+    subst (Longest ends_float (begins_float_part (c ∷ rest)) (c ∷ rest)) (sym (float_no_digit c rest e))
+    (agreeing is_float_part ends_float (begins_float_part (c ∷ rest)) (c ∷ rest) (float_part_len (c ∷ rest))
+    (same_fronts is_float_part ends_float c rest refl (float_test false c e)) (float_part (c ∷ rest)))
+
+-- the longest float, where its first digit stands before the text
+pub float : (text : List ℕ) → Longest ends_float (begins_float text) text (float_len text)
+float [] = in_empty ends_float refl
+float (c ∷ rest) = float_by (is_decimal c) c rest refl (float rest)

@@ -6,6 +6,7 @@ pub mod FloatsRead
 pub mod FrontRuns
 pub mod Halts
 pub mod Instances
+pub mod IntegersRead
 pub mod Longest
 pub mod Marks
 pub mod NamesRead
