@@ -38,10 +38,10 @@ x_no_decimal m e = of_two (λ z. is_decimal z ≡ false) m 120 88 refl refl (m =
 o_no_decimal : (m : ℕ) → is_o m ≡ true → is_decimal m ≡ false
 o_no_decimal m e = of_two (λ z. is_decimal z ≡ false) m 111 79 refl refl (m == 111) (m == 79) refl refl e
 
-x_no_float : (m : ℕ) (rest : List ℕ) → is_x m ≡ true → begins_float (m ∷ rest) ≡ false
+pub x_no_float : (m : ℕ) (rest : List ℕ) → is_x m ≡ true → begins_float (m ∷ rest) ≡ false
 x_no_float m rest e = of_two (λ z. begins_float (z ∷ rest) ≡ false) m 120 88 refl refl (m == 120) (m == 88) refl refl e
 
-o_no_float : (m : ℕ) (rest : List ℕ) → is_o m ≡ true → begins_float (m ∷ rest) ≡ false
+pub o_no_float : (m : ℕ) (rest : List ℕ) → is_o m ≡ true → begins_float (m ∷ rest) ≡ false
 o_no_float m rest e = of_two (λ z. begins_float (z ∷ rest) ≡ false) m 111 79 refl refl (m == 111) (m == 79) refl refl e
 
 no_letter : (a b e : Bool) → b ≡ false → ((a && b) && e) ≡ false
