@@ -2,9 +2,12 @@ pub mod Agreeing
 pub mod Bytes
 pub mod ClosedRead
 pub mod EscapesRead
+pub mod FloatsRead
 pub mod FrontRuns
 pub mod Halts
 pub mod Instances
+pub mod IntegersRead
+pub mod Longest
 pub mod Marks
 pub mod NamesRead
 pub mod NumbersRead
