@@ -1,10 +1,8 @@
 -- Floats are read as the rules say.
-use Rattle.std.proofs.Common.{◌≡◌, ◌≤◌, ℕ, zero, suc, ◌+◌, Bool, true, false, cond, not, ◌&&◌, ◌||◌, ◌==◌, List, [], ◌∷◌, ◌++◌, length, take, drop, refl, sym, ap, subst, ◌∙◌, true≢false, arith}
-use Rattle.std.specs.List.{list_all, prefix_len}
-use Rattle.std.proofs.lemmas.List.Sums.{prefix_len-le-length}
+use Rattle.std.proofs.Common.{◌≡◌, ◌≤◌, ℕ, zero, suc, ◌+◌, Bool, true, false, cond, not, ◌&&◌, ◌||◌, ◌==◌, List, [], ◌∷◌, length, take, drop, refl, sym, ap, subst, ◌∙◌, true≢false, arith}
 use Rattle.hr_rules.specs.Runs.{begins}
 use Rattle.hr_rules.specs.Numbers.{is_decimal, is_digits, is_e, is_exponent, ends_fraction, is_fraction, ends_float, begins_exponent, begins_float}
-use Rattle.hr_rules.proofs.Apart.{both, both_left, both_right}
+use Rattle.hr_rules.proofs.Apart.{both, both_right}
 use Rattle.hr_lexer.specs.NumberReader.{digits_len, with_more, signed_len, exponent_len, fraction_len, float_part_len, float_len}
 use Rattle.hr_lexer.proofs.Longest.{Longest, some_there, agreeing, behind, in_empty, none_there, digits}
 use Rattle.hr_lexer.proofs.RunsRead.{one_more, no_run}

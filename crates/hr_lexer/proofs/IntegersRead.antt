@@ -1,15 +1,15 @@
 -- Integers are read as the rules say.
-use Rattle.std.proofs.Common.{◌≡◌, ◌≤◌, ℕ, zero, suc, ◌+◌, Bool, true, false, cond, not, ◌&&◌, ◌||◌, ◌==◌, List, [], ◌∷◌, ◌++◌, length, take, drop, Option, Some, None, refl, sym, ap, subst, ◌∙◌, true≢false, arith}
+use Rattle.std.proofs.Common.{◌≡◌, ◌≤◌, ℕ, zero, suc, ◌+◌, Bool, true, false, cond, not, ◌&&◌, ◌||◌, ◌==◌, List, [], ◌∷◌, length, take, drop, Option, Some, None, refl, sym, ap, subst, ◌∙◌, true≢false, arith}
 use Rattle.std.specs.List.{list_all, prefix_len}
 use Rattle.std.specs.Option.{IsSome}
 use Rattle.std.proofs.lemmas.List.Sums.{prefix_len-le-length}
 use Rattle.hr_rules.specs.Runs.{begins}
 use Rattle.hr_rules.specs.Numbers.{is_decimal, is_octal, is_hexadecimal, is_digits, is_x, is_o, value_of, integer_value, longest_value, begins_float}
-use Rattle.hr_rules.proofs.Apart.{both, both_left, both_right, and_false}
+use Rattle.hr_rules.proofs.Apart.{both, both_right, and_false}
 use Rattle.hr_lexer.specs.declared.numbers.Digits.{Digits}
 use Rattle.hr_lexer.specs.NumberReader.{digits_len, decimal_digits, integer_digits}
-use Rattle.hr_lexer.proofs.Longest.{Longest, digits, more_all}
-use Rattle.hr_lexer.proofs.RunsRead.{one_more, run_more, run_all, some_test}
+use Rattle.hr_lexer.proofs.Longest.{digits, more_all}
+use Rattle.hr_lexer.proofs.RunsRead.{one_more, run_more, run_all}
 
 -- the digits are those of the longest integer that begins with this character, and this is its value
 pub record Fits (c : ℕ) (rest : List ℕ) (value : ℕ) (digits : Digits) : Type 0 where

@@ -1,11 +1,10 @@
 -- Numbers are read as the rules say.
-use Rattle.std.proofs.Common.{◌≡◌, ◌<◌, ◌≤◌, ℕ, zero, suc, ◌+◌, Bool, true, false, cond, not, ◌&&◌, ◌||◌, ◌==◌, nat_le, nat_lt, List, [], ◌∷◌, ◌++◌, length, take, drop, Option, Some, None, refl, sym, ap, subst, ◌∙◌, true≢false, arith, length-append}
-use Rattle.std.specs.List.{list_all, prefix_len}
+use Rattle.std.proofs.Common.{◌≡◌, ◌≤◌, ℕ, zero, suc, ◌+◌, Bool, true, false, cond, not, ◌&&◌, ◌==◌, nat_le, nat_lt, List, [], ◌∷◌, ◌++◌, length, take, drop, Option, Some, None, refl, sym, ap, subst, ◌∙◌, true≢false, arith, length-append}
+use Rattle.std.specs.List.{list_all}
 use Rattle.std.specs.Option.{IsSome}
 use Rattle.std.proofs.Math.Seq.{take-append_seam}
 use Rattle.hr_base.specs.declared.lexeme.Class.{Class}
 use Rattle.hr_rules.specs.declared.character.Kind.{Kind}
-use Rattle.hr_rules.specs.Letters.{kind_of}
 use Rattle.hr_rules.specs.Numbers.{greatest_integer, is_decimal, is_octal, is_hexadecimal, is_digits, is_x, is_o, value_of, integer_value, integer_class, ends_float, number_class, begins_float, longest_value, is_too_wide}
 use Rattle.hr_rules.proofs.Apart.{both_left, both_right}
 use Rattle.hr_rules.proofs.Digits.{digit_decimal}
@@ -13,9 +12,9 @@ use Rattle.hr_lexer.specs.declared.numbers.Digits.{Digits}
 use Rattle.hr_lexer.specs.declared.taken.Taken.{Taken}
 use Rattle.hr_lexer.specs.NumberReader.{digits_len, with_more, float_part_len, float_len, integer_digits, is_wide, integer_at, number_at}
 use Rattle.hr_lexer.proofs.Statements.{Reads, ReadsRight, ReadsLongest}
-use Rattle.hr_lexer.proofs.RunsRead.{some_is, none_some, len_of, class_in, taken_right, ReadParts}
+use Rattle.hr_lexer.proofs.RunsRead.{some_is, len_of, class_in, taken_right, ReadParts}
 use Rattle.hr_lexer.proofs.NamesRead.{kept}
-use Rattle.hr_lexer.proofs.Longest.{Longest, some_there, more_all}
+use Rattle.hr_lexer.proofs.Longest.{some_there, more_all}
 use Rattle.hr_lexer.proofs.FloatsRead.{float, float_digit}
 use Rattle.hr_lexer.proofs.IntegersRead.{Fits, integer, x_no_float, o_no_float}
 
@@ -53,9 +52,15 @@ float_parts : (c : ℕ) (rest : List ℕ) (taken : Taken) → is_decimal c ≡ t
     → (is_too_wide c rest ≡ false) × ReadParts (λ front after. number_class c front) rest taken
 float_parts c rest taken d f e =
     let n : ℕ = float_len rest in
-    let is : ◌≡◌ {A = Taken} (record { class = Class.Float; len = suc n }) taken = some_is (record { class = Class.Float; len = suc n }) taken (sym (float_taken c rest d f) ∙ e) in
-    (ap (λ b. not b && nat_lt greatest_integer (longest_value c rest)) f, (n, sym (ap len_of is), (float rest).within,
-    ap (λ b. cond b (Some Class.Float) (integer_class (integer_value c (take n rest)))) ((float rest).right f) ∙ ap Some (ap class_in is)))
+    let is : ◌≡◌ {A = Taken} (record { class = Class.Float; len = suc n }) taken = some_is (record { class = Class.Float; len = suc n }) taken (sym (float_taken c rest d f) ∙ e) in (
+      ap (λ b. not b && nat_lt greatest_integer (longest_value c rest)) f,
+      (
+        n,
+        sym (ap len_of is),
+        (float rest).within,
+        ap (λ b. cond b (Some Class.Float) (integer_class (integer_value c (take n rest)))) ((float rest).right f) ∙ ap Some (ap class_in is),
+      ),
+    )
 
 no_end_by : (rest : List ℕ) (m : ℕ) → m ≤ length rest → begins_float rest ≡ false → (b : Bool) → ends_float (take m rest) ≡ b → ends_float (take m rest) ≡ false
 no_end_by rest m in_text f true e = absurd (true≢false (sym ((float rest).longest m in_text e).0 ∙ f))
@@ -71,10 +76,16 @@ integer_parts c rest taken d f e =
     let read : Taken = record { class = Class.Integer; len = digits.skipped + digits.len } in
     let parts : (is_wide digits.base written ≡ false) × (read ≡ taken) = kept (is_wide digits.base written) read taken (sym (integer_taken c rest d f) ∙ e) in
     let fit : nat_lt greatest_integer value ≡ false = sym (wide c rest d) ∙ parts.0 in
-    let front : List ℕ = take fits.more rest in
-    (ap (λ b. not b && nat_lt greatest_integer value) f ∙ fit, (fits.more, sym (ap len_of parts.1) ∙ fits.len, fits.within,
-    ap (λ b. cond b (Some Class.Float) (integer_class (integer_value c front))) (no_end_by rest fits.more fits.within f (ends_float front) refl)
-    ∙ (ap integer_class fits.right ∙ (ap (λ b. cond b (Some Class.Integer) None) (within value fit) ∙ ap Some (ap class_in parts.1)))))
+    let front : List ℕ = take fits.more rest in (
+      ap (λ b. not b && nat_lt greatest_integer value) f ∙ fit,
+      (
+        fits.more,
+        sym (ap len_of parts.1) ∙ fits.len,
+        fits.within,
+        ap (λ b. cond b (Some Class.Float) (integer_class (integer_value c front))) (no_end_by rest fits.more fits.within f (ends_float front) refl)
+            ∙ (ap integer_class fits.right ∙ (ap (λ b. cond b (Some Class.Integer) None) (within value fit) ∙ ap Some (ap class_in parts.1))),
+      ),
+    )
 
 parts_by : (c : ℕ) (rest : List ℕ) (taken : Taken) (b : Bool) → begins_float rest ≡ b → is_decimal c ≡ true → number_at (c ∷ rest) ≡ Some taken
     → (is_too_wide c rest ≡ false) × ReadParts (λ front after. number_class c front) rest taken
