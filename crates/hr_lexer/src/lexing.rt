@@ -37,7 +37,7 @@ pub fn lex(alloc: Global, bytes: &[u8]) -> Result<Items, LexError>
             });
         }
     };
-    let characters: Vec<char> = text.chars().collect(alloc).map_err(LexError::Memory)?;
+    let characters = characters_of(alloc, text).map_err(LexError::Memory)?;
     let source = Source {
         characters: characters.as_slice(),
         bytes,
@@ -45,6 +45,13 @@ pub fn lex(alloc: Global, bytes: &[u8]) -> Result<Items, LexError>
     let (mark, rest) = split(source, mark_count(source.characters));
     let items = read_items(alloc, bytes.len(), rest)?;
     led_by(alloc, mark, items).map_err(LexError::Memory)
+}
+
+/// The characters of a text.
+fn characters_of(alloc: Global, text: &str) -> Result<Vec<char>, AllocError>
+    ensures { IfOk result (λ characters. text.now ≡ encode_utf8_all characters.items) }
+{
+    text.chars().collect(alloc)
 }
 
 /// 1 where a byte order mark begins the text, else 0.
