@@ -5,3 +5,4 @@ pub mod NumberReader
 pub mod QuoteReader
 pub mod Refusals
 pub mod TriviaReader
+pub mod Words

@@ -1,6 +1,6 @@
 -- When a text is refused, and where.
 use Rattle.std.specs.Prelude.{◌≡◌, ◌<◌, ◌≤◌, ◌+◌, ℕ, Bool, true, false, not, if◌then◌else◌, List, [], ◌∷◌, length, drop, ⊤}
-use Rattle.std.specs.Str.{chars, IsValidUpTo}
+use Rattle.std.specs.Str.{chars, IsUtf8, IsValidUpTo}
 use Rattle.hr_rules.specs.declared.character.Kind.{Kind}
 use Rattle.hr_rules.specs.Letters.{kind_of}
 use Rattle.hr_rules.specs.Comments.{opens}
@@ -26,17 +26,29 @@ abbrev pub begins_wide : List ℕ → Bool
 begins_wide [] = false
 begins_wide (c ∷ rest) = wide_by (kind_of c) c rest
 
--- the text is short enough, and can't be lexed further than to the place, where these characters are left
+-- the text is UTF-8, and can't be lexed further than to the place, where these characters are left
 abbrev pub Stuck : List ℕ → ℕ → (List ℕ → Type 0) → Type 0
-Stuck bytes place Left = (length bytes ≤ longest_text) × StopsAt bytes place × Left (chars (drop place bytes))
+Stuck bytes place Left = IsUtf8 bytes × StopsAt bytes place × Left (chars (drop place bytes))
 
-abbrev pub IsRefusal : List ℕ → LexError → Type 0
-IsRefusal bytes LexError.TooLong = longest_text < length bytes
-IsRefusal bytes (LexError.BadUtf8 place) = (length bytes ≤ longest_text) × IsValidUpTo bytes place
-IsRefusal bytes (LexError.OpenComment place) = Stuck bytes place (λ left. opens_comment left ≡ true)
-IsRefusal bytes (LexError.LiteralTooWide place) = Stuck bytes place (λ left. begins_wide left ≡ true)
-IsRefusal bytes (LexError.BadLexeme place) = Stuck bytes place (λ left. (opens_comment left ≡ false) × (begins_wide left ≡ false))
-IsRefusal bytes (LexError.Memory _) = ⊤
+-- why the text, of any length, has no items: its first byte that begins no character; or else the first place
+-- where nothing fits, at a nested comment that never closes, at an integer that is too great, or at none of both
+abbrev pub IsStop : List ℕ → LexError → Type 0
+IsStop bytes LexError.TooLong = ⊥
+IsStop bytes (LexError.BadUtf8 place) = IsValidUpTo bytes place
+IsStop bytes (LexError.OpenComment place) = Stuck bytes place (λ left. opens_comment left ≡ true)
+IsStop bytes (LexError.LiteralTooWide place) = Stuck bytes place (λ left. begins_wide left ≡ true)
+IsStop bytes (LexError.BadLexeme place) = Stuck bytes place (λ left. (opens_comment left ≡ false) × (begins_wide left ≡ false))
+IsStop bytes (LexError.Memory _) = ⊥
+
+-- why a text is refused: it is too long; or else it has no items
+abbrev pub IsCause : List ℕ → LexError → Type 0
+IsCause bytes LexError.TooLong = longest_text < length bytes
+IsCause bytes error = (length bytes ≤ longest_text) × IsStop bytes error
+
+-- want of memory says nothing of the text
+abbrev pub OrMemory : (LexError → Type 0) → LexError → Type 0
+OrMemory Is (LexError.Memory _) = Unit {0}
+OrMemory Is error = Is error
 
 -- why nothing fits where these characters are left
 abbrev pub cause_by : Kind → ℕ → LexError

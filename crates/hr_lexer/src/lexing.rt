@@ -3,7 +3,7 @@ ghost use Rattle.std.specs.Prelude.{◌≡◌, ◌<◌, ◌≤◌, ◌++◌, ◌
 ghost use Rattle.std.specs.Str.{all_scalars, encode_utf8_all};
 ghost use Rattle.hr_rules.specs.Lexemes.{class_of, is_piece, bars, led_by, LexesText};
 ghost use Rattle.hr_rules.specs.Lexing.{Lexes};
-ghost use Rattle.hr_lexer.specs.Refusals.{cause_of, IsHalt, IsRefusal};
+ghost use Rattle.hr_lexer.specs.Refusals.{cause_of, IsCause, IsHalt, IsStop, OrMemory};
 ghost use Rattle.hr_lexer.specs.Marks.{mark_count};
 ghost use Rattle.hr_lexer.specs.LexemeReader.{lexeme_at, special_at};
 
@@ -24,11 +24,19 @@ const LONGEST_TEXT: usize = 1_048_576;
 /// The items of a text.
 pub fn lex(alloc: Global, bytes: &[u8]) -> Result<Items, LexError>
     ensures read { IfOk result (λ items. LexesText bytes.now items) }
-    ensures refused { IfErr result (λ error. IsRefusal bytes.now error) }
+    ensures refused { IfErr result (OrMemory (IsCause bytes.now)) }
 {
     if bytes.len() > LONGEST_TEXT {
         return Err(LexError::TooLong);
     }
+    items(alloc, bytes)
+}
+
+/// The items of a text of any length.
+pub fn items(alloc: Global, bytes: &[u8]) -> Result<Items, LexError>
+    ensures read { IfOk result (λ items. LexesText bytes.now items) }
+    ensures refused { IfErr result (OrMemory (IsStop bytes.now)) }
+{
     let text = match str::from_utf8(bytes) {
         Ok(text) => text,
         Err(error) => {

@@ -1,6 +1,7 @@
 //! The lexer: the items of a text by the lexical rules, or the first place where they fail.
 #![tactic(auto)]
 
+mod apart;
 mod comments;
 mod error;
 mod escapes;
@@ -12,6 +13,7 @@ mod source;
 mod tables;
 mod taken;
 
+pub use apart::{are_apart, is_varid};
 pub use error::LexError;
 pub use lexing::lex;
 

@@ -1,4 +1,7 @@
+pub mod Binders
+pub mod Form
 pub mod Reading
+pub mod Refusals
 pub mod Renaming
 pub mod Scoping
 pub mod Target

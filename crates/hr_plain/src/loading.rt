@@ -1,28 +1,25 @@
+ghost use Rattle.std.specs.Prelude.{IfErr, IfOk};
+ghost use Rattle.hr_plain.specs.Form.{IsPlain};
+ghost use Rattle.hr_plain.specs.Refusals.{IsLoadRefusal};
+
 use crate::equations::equations;
 use crate::scoping::is_scoped;
+use crate::trivia::are_plain;
 use hr_base::Items;
 use hr_lexer::{LexError, lex};
 use hr_tree::Module;
 use std::alloc::{AllocError, AllocFailed, Global};
 use thiserror::Error;
 
-/// Why a text is not read.
-#[derive(Clone, Copy, Debug, Error, PartialEq, Eq)]
+/// Why the text of that number, from 0, is not read.
+#[derive(Debug, Drop, Error)]
 pub enum LoadError {
-    #[error("not of the plain form")]
-    NotBuilt,
+    #[error("text {text}: {error}")]
+    Lex { text: usize, error: LexError },
+    #[error("text {text} is not of the plain form")]
+    NotBuilt { text: usize },
     #[error("out of memory")]
     Memory(AllocError),
-}
-
-impl LoadError {
-    /// The number of the refusal; none for want of memory.
-    pub fn number(self) -> Option<u32> {
-        match self {
-            LoadError::NotBuilt => Some(25),
-            LoadError::Memory(_) => None,
-        }
-    }
 }
 
 impl<T: Drop> From<AllocFailed<T>> for LoadError {
@@ -31,23 +28,32 @@ impl<T: Drop> From<AllocFailed<T>> for LoadError {
     }
 }
 
-impl From<LexError> for LoadError {
-    fn from(error: LexError) -> LoadError {
-        match error {
-            LexError::NotBuilt => LoadError::NotBuilt,
-            LexError::Memory(error) => LoadError::Memory(error),
-        }
+/// The lexer's refusal of the one text.
+fn unread(error: LexError) -> LoadError {
+    match error {
+        LexError::Memory(error) => LoadError::Memory(error),
+        error => LoadError::Lex { text: 0, error },
     }
 }
 
 /// The tree of a text of the plain form.
-pub fn load(alloc: Global, bytes: &[u8]) -> Result<Module, LoadError> {
-    let Items { list, tail } = lex(alloc, bytes)?;
+pub fn load(alloc: Global, bytes: &[u8]) -> Result<Module, LoadError>
+    ensures read { IfOk result (IsPlain bytes.now) }
+    ensures refused { IfErr result (IsLoadRefusal bytes.now) }
+{
+    let items = match lex(alloc, bytes) {
+        Ok(items) => items,
+        Err(error) => return Err(unread(error)),
+    };
+    if !are_plain(&items) {
+        return Err(NOT_BUILT);
+    }
+    let Items { list, tail } = items;
     let equations = equations(alloc, list.list)?;
     let tree = Module { equations, tail };
     if is_scoped(alloc, &tree).map_err(LoadError::Memory)? {
         Ok(tree)
     } else {
-        Err(LoadError::NotBuilt)
+        Err(NOT_BUILT)
     }
 }

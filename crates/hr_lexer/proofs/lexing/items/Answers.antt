@@ -6,12 +6,12 @@ use Rattle.hr_base.specs.declared.lexeme.Item.{Item}
 use Rattle.hr_base.specs.declared.lexeme.Items.{Items}
 use Rattle.hr_rules.specs.Lexemes.{class_of, is_piece, bars, led_by, mark_len, LexesText}
 use Rattle.hr_rules.specs.Lexing.{Lexes}
-use Rattle.hr_lexer.specs.Refusals.{cause_of, IsHalt, IsRefusal}
+use Rattle.hr_lexer.specs.Refusals.{cause_of, IsHalt, IsStop, OrMemory}
 use Rattle.hr_lexer.specs.Marks.{mark_count}
 use Rattle.hr_lexer.proofs.Bytes.{scalars_drop}
 use Rattle.hr_lexer.proofs.Marks.{mark_front, mark_back}
 use Rattle.hr_lexer.proofs.Whence.{refused}
-use Rattle.hr_lexer.proofs.lexing.lex.Goals as goal
+use Rattle.hr_lexer.proofs.lexing.items.Goals as goal
 
 pub read_items-requires-clause-scalars : goal.read_items-requires-clause-scalars
 read_items-requires-clause-scalars c =
@@ -27,10 +27,10 @@ returns-in_err-items-clause-refused c =
     let bytes : List ℕ = c.args.bytes.now in
     let cs : List ℕ = c.as_slice.result.now in
     let spelled : bytes ≡ encodes cs = search rules in
-    let short : length bytes ≤ 1048576 = omega arith in
+    let valid : IsUtf8 bytes = search rules in
     let behind : c.split.result.1.bytes.now ≡ drop (mark_len bytes) bytes =
     c.split.ensures.bytes ∙ ap (λ n. encodes (drop n cs)) c.mark_count.ensures.value ∙ sym (mark_back cs bytes spelled) in
-    let it : IsRefusal bytes c.in_err-items.field-0.0 = refused bytes c.split.result.1.bytes.now short behind c.in_err-items.field-0.0 c.in_err-items.ensures.refused in
+    let it : OrMemory (IsStop bytes) c.in_err-items.field-0.0 = refused bytes c.split.result.1.bytes.now valid behind c.in_err-items.field-0.0 c.in_err-items.ensures.refused in
     search rules
 
 pub returns-clause-read : goal.returns-clause-read
