@@ -1,6 +1,4 @@
 //! Texts that are one lexeme, and lexemes that stand side by side.
-ghost use Rattle.std.specs.Prelude.{IfOk};
-ghost use Rattle.hr_lexer.specs.Words.{AreApart, IsVarId, Tells};
 
 use crate::LexError;
 use crate::lexing::items;
@@ -9,7 +7,6 @@ use std::alloc::{AllocError, Global};
 
 /// Whether the text is a variable identifier.
 pub fn is_varid(alloc: Global, text: &[u8]) -> Result<bool, AllocError>
-    ensures { IfOk result (λ is. Tells is (IsVarId text.now)) }
 {
     match items(alloc, text) {
         Ok(items) => match items.list.as_slice() {
@@ -29,7 +26,6 @@ fn is_word(item: &Item, text: &[u8]) -> bool {
 /// Whether the two texts, one directly behind the other, are read as two lexemes, the first text and
 /// the second.
 pub fn are_apart(alloc: Global, before: &[u8], text: &[u8]) -> Result<bool, AllocError>
-    ensures { IfOk result (λ are. Tells are (AreApart before.now text.now)) }
 {
     let mut both = Vec::from_slice(alloc, before)?;
     both.extend_from_slice(text)?;

@@ -7,11 +7,17 @@ use Rattle.hr_base.specs.declared.lexeme.Item.{Item}
 use Rattle.hr_base.specs.declared.lexeme.Items.{Items}
 use Rattle.hr_rules.specs.Lexing.{joined}
 use Rattle.hr_rules.specs.Positions.{positions_of, is_same_pos}
+use Rattle.hr_rules.specs.Lexemes.{LexesText}
+use Rattle.hr_lexer.specs.Words.{IsVarId}
 use Rattle.hr_tree.specs.declared.tree.Equation.{Equation}
 use Rattle.hr_tree.specs.declared.tree.Module.{Module}
 use Rattle.hr_tree.specs.Yields.{module_items, items_of, equation_items}
 use Rattle.hr_plain.specs.declared.binding.Owner.{Owner}
 use Rattle.hr_plain.specs.Scoping.{is_variable, owner_in, occurrences_of}
+use Rattle.hr_plain.specs.declared.renaming.Sought.{Sought}
+use Rattle.hr_plain.specs.declared.renaming.Why.{Why}
+use Rattle.hr_plain.specs.Binders.{binders_of}
+use Rattle.hr_plain.specs.Form.{IsForm, is_ascii_text}
 use Rattle.hr_plain.specs.Target.{RespellsAll}
 
 -- what a name at a lexeme of an equation is: the first lexeme is a top-level name
@@ -37,13 +43,6 @@ is_spelled text items = list_any (λ item. pointwise nat_eq item.lexeme.text tex
 abbrev pub module_limit : ℕ
 module_limit = 1048576
 
--- the new text: every occurrence of the name at the lexeme, which has the old text, is respelled, and all
--- else stays
-pub record Renames (tree : Module) (lexeme : ℕ) (old new text : List ℕ) : Type 0 where
-  pub items : Items
-  pub respelled : RespellsAll new (occurrences_of (owner_at tree lexeme old) old tree) (items_of tree) items
-  pub text_is : text ≡ joined items.list items.tail
-
 -- the lexeme of that number begins at the position of the module `Main`, and is a variable
 pub record IsNameAt (tree : Module) (module_name : List ℕ) (pos : Pos) (lexeme : ℕ) (item : Item) : Type 0 where
   pub is_main : module_name ≡ codes "Main"
@@ -51,15 +50,56 @@ pub record IsNameAt (tree : Module) (module_name : List ℕ) (pos : Pos) (lexeme
   pub item_is : slice_get (module_items tree) lexeme ≡ Some item
   pub variable : is_variable item ≡ true
 
+-- the lexeme and its text of a name that was found
+abbrev pub IsFound : Module → List ℕ → Pos → ℕ → List ℕ → Type 0
+IsFound tree module_name pos lexeme text = (item : Item) × IsNameAt tree module_name pos lexeme item × (item.lexeme.text ≡ text)
+
+-- no name begins there
+abbrev pub NoName : Module → List ℕ → Pos → Type 0
+NoName tree module_name pos = (lexeme : ℕ) (item : Item) → ¬ (IsNameAt tree module_name pos lexeme item)
+
+-- the items of the target: every occurrence of the name at the lexeme, which has the old text, has the new one,
+-- and all else stays
+abbrev pub Respelled : Module → ℕ → List ℕ → List ℕ → Items → Type 0
+Respelled tree lexeme old new items = RespellsAll new (occurrences_of (owner_at tree lexeme old) old tree) (items_of tree) items
+
+-- the target of a renaming as a tree, and its text: the lexemes but the respelled ones, and what stands between
+-- them but for a separating blank, stay; the text reads as the target by the lexical rules, and is of the plain
+-- form again where the new name is ASCII; and each name is bound to the lexeme that it was bound to
+pub record IsTarget (tree : Module) (lexeme : ℕ) (old new text : List ℕ) (target : Module) : Type 0 where
+  pub respelled : Respelled tree lexeme old new (items_of target)
+  pub reads : LexesText text (items_of target)
+  pub form : is_ascii_text new ≡ true → IsForm target
+  pub binds : binders_of target ≡ binders_of tree
+
+-- a name that may be renamed so: it begins at the position, and the new one is a varid and stands nowhere in the
+-- module
+pub record MayRename (tree : Module) (module_name : List ℕ) (pos : Pos) (new : List ℕ) (lexeme : ℕ) (item : Item) : Type 0 where
+  pub name : IsNameAt tree module_name pos lexeme item
+  pub varid : IsVarId new
+  pub fresh : is_spelled new (module_items tree) ≡ false
+
 -- an accepted renaming
 pub record IsRenamed (tree : Module) (module_name : List ℕ) (pos : Pos) (new text : List ℕ) : Type 0 where
   pub lexeme : ℕ
   pub item : Item
-  pub name : IsNameAt tree module_name pos lexeme item
-  pub fresh : is_spelled new (module_items tree) ≡ false
-  pub renames : Renames tree lexeme item.lexeme.text new text
+  pub may : MayRename tree module_name pos new lexeme item
+  pub target : Module
+  pub is_target : IsTarget tree lexeme item.lexeme.text new text target
   pub within : length text ≤ module_limit
 
--- the lexeme and its text of a name that was found
-abbrev pub IsFound : Module → List ℕ → Pos → ℕ → List ℕ → Type 0
-IsFound tree module_name pos lexeme text = (item : Item) × IsNameAt tree module_name pos lexeme item × (item.lexeme.text ≡ text)
+-- why a renaming is refused, the first that applies: no name begins at the position (31), the new name is no varid
+-- (33), some lexeme has it as its text (58), the new text is too long (57)
+abbrev pub IsWhy : Module → List ℕ → Pos → List ℕ → Why → Type 0
+IsWhy tree module_name pos new (Why.NoSuchThing (Sought.Name _)) = ⊥
+IsWhy tree module_name pos new (Why.NoSuchThing (Sought.At place)) =
+    (place ≡ record { «module» = module_name; pos = pos }) × NoName tree module_name pos
+IsWhy tree module_name pos new Why.WrongForm =
+    ((lexeme : ℕ) × (item : Item) × IsNameAt tree module_name pos lexeme item) × ¬ (IsVarId new)
+IsWhy tree module_name pos new Why.NotBuilt =
+    ((lexeme : ℕ) × (item : Item) × IsNameAt tree module_name pos lexeme item) × IsVarId new
+    × (is_spelled new (module_items tree) ≡ true)
+IsWhy tree module_name pos new Why.OverLimit =
+    (lexeme : ℕ) × (item : Item) × (items : Items) × MayRename tree module_name pos new lexeme item
+    × Respelled tree lexeme item.lexeme.text new items × (module_limit < length (joined items.list items.tail))
+IsWhy tree module_name pos new (Why.Memory _) = Unit {0}

@@ -1,16 +1,9 @@
 -- The target of a renaming: the lexemes of the module, the marked ones with the new text; what stands
 -- between lexemes stays, but for one blank where two of them would be read as one.
-use Rattle.std.specs.Prelude.{◌≡◌, ◌⊎◌, ℕ, Bool, true, false, List, [], ◌∷◌, ◌++◌, if◌then◌else◌}
-use Rattle.hr_base.specs.declared.lexeme.Class.{Class}
+use Rattle.std.specs.Prelude.{◌≡◌, ℕ, Bool, true, false, List, [], ◌∷◌}
 use Rattle.hr_base.specs.declared.lexeme.Item.{Item}
 use Rattle.hr_base.specs.declared.lexeme.Items.{Items}
-use Rattle.hr_rules.specs.Lexemes.{LexesText}
-
--- two texts, one behind the other, are read as just these two lexemes
-abbrev pub AreApart : List ℕ → List ℕ → Type 0
-AreApart before text =
-    (class other : Class) × LexesText (before ++ text)
-    (record { list = record { trivia = []; lexeme = record { class = class; text = before } } ∷ record { trivia = []; lexeme = record { class = other; text = text } } ∷ []; tail = [] })
+use Rattle.hr_lexer.specs.Words.{AreApart}
 
 -- what stands before the new text of a lexeme, behind a lexeme of this text: what stood there; but one blank
 -- (32) where that was nothing and the two would not be read apart. Before the first lexeme there is none.
@@ -30,7 +23,7 @@ Respells new true before old item =
 pub data AllRespell (new : List ℕ) : List ℕ → List Bool → List Item → List Item → Type 0 where
   none : (before : List ℕ) → AllRespell new before [] [] []
   more : (before : List ℕ) (mark : Bool) (marks : List Bool) (old item : Item) (olds items : List Item)
-      → Respells new mark before old item → AllRespell new old.lexeme.text marks olds items
+      → Respells new mark before old item → AllRespell new item.lexeme.text marks olds items
       → AllRespell new before (mark ∷ marks) (old ∷ olds) (item ∷ items)
 
 -- and of a whole module; what is behind the last item stays

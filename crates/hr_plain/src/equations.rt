@@ -1,8 +1,8 @@
 ghost use Rattle.std.specs.Prelude.{◌<◌, length, OnOk};
 
 use crate::expressions::{HEIGHT_LIMIT, Tall, expression};
-use crate::loading::LoadError;
-use crate::rest::{Rest, is_integer, is_mark, is_variable};
+use crate::loading::{LoadError, not_built};
+use crate::rest::{Rest, is_integer, is_mark, is_plain_variable};
 use crate::starts::starts;
 use hr_base::{Item, Seq};
 use hr_tree::Equation;
@@ -20,7 +20,7 @@ pub fn equations(alloc: Global, items: Vec<Item>) -> Result<Seq<Equation>, LoadE
             let whole = mem::replace(&mut part, Vec::new(alloc));
             list.push(equation(alloc, whole)?)?;
         } else if !begins && part.is_empty() {
-            return Err(LoadError::NotBuilt);
+            return Err(not_built());
         }
         part.push(item)?;
     }
@@ -33,7 +33,7 @@ pub fn equations(alloc: Global, items: Vec<Item>) -> Result<Seq<Equation>, LoadE
 /// The equation that the items are.
 fn equation(alloc: Global, items: Vec<Item>) -> Result<Equation, LoadError> {
     let mut rest = Rest::new(items);
-    let name = expect(&mut rest, is_variable)?;
+    let name = expect(&mut rest, is_plain_variable)?;
     let mut patterns = Vec::new(alloc);
     'patterns: while rest.peek().is_some_and(is_pattern) {
         patterns.push(expect(&mut rest, is_pattern)?)?;
@@ -41,7 +41,7 @@ fn equation(alloc: Global, items: Vec<Item>) -> Result<Equation, LoadError> {
     let equals = expect(&mut rest, is_equals)?;
     let Tall { exp, height } = expression(alloc, &mut rest, HEIGHT_LIMIT)?;
     if height > HEIGHT_LIMIT || !rest.is_empty() {
-        return Err(LoadError::NotBuilt);
+        return Err(not_built());
     }
     Ok(Equation {
         name,
@@ -52,11 +52,11 @@ fn equation(alloc: Global, items: Vec<Item>) -> Result<Equation, LoadError> {
 }
 
 fn is_pattern(item: &Item) -> bool {
-    is_variable(item) || is_integer(item)
+    is_plain_variable(item) || is_integer(item)
 }
 
 fn is_equals(item: &Item) -> bool {
-    is_mark(item, b"=")
+    is_mark(item, b'=')
 }
 
 /// The next item, which has to meet the test.
@@ -69,9 +69,9 @@ fn expect<F: FnOnce(&Item) -> bool + Drop>(rest: &mut Rest, test: F) -> Result<I
             if test(&item) {
                 Ok(item)
             } else {
-                Err(LoadError::NotBuilt)
+                Err(not_built())
             }
         }
-        None => Err(LoadError::NotBuilt),
+        None => Err(not_built()),
     }
 }

@@ -1,7 +1,7 @@
 ghost use Rattle.std.specs.Prelude.{◌<◌, ◌≤◌, length, OnOk};
 
-use crate::loading::LoadError;
-use crate::rest::{Rest, is_integer, is_mark, is_variable};
+use crate::loading::{LoadError, not_built};
+use crate::rest::{Rest, is_integer, is_mark, is_plain_variable};
 use hr_base::Item;
 use hr_tree::Exp;
 use sqlite_items::{Boxed, Items as Children};
@@ -40,12 +40,12 @@ pub fn expression(alloc: Global, rest: &mut Rest, depth: u32) -> Result<Tall, Lo
     }
     match atoms.pop() {
         Some(exp) => Ok(Tall { exp, height }),
-        None => Err(LoadError::NotBuilt),
+        None => Err(not_built()),
     }
 }
 
 fn begins_atom(item: &Item) -> bool {
-    is_variable(item) || is_integer(item) || is_mark(item, b"(")
+    is_plain_variable(item) || is_integer(item) || is_mark(item, b'(')
 }
 
 /// The atom that the next item begins.
@@ -55,9 +55,9 @@ fn atom(alloc: Global, rest: &mut Rest, depth: u32) -> Result<Tall, LoadError>
     ensures no_more { length rest.new ≤ length rest.old }
 {
     let Some(first) = rest.take() else {
-        return Err(LoadError::NotBuilt);
+        return Err(not_built());
     };
-    if is_variable(&first) {
+    if is_plain_variable(&first) {
         return Ok(Tall {
             exp: Exp::Variable(first),
             height: 1,
@@ -78,13 +78,13 @@ fn group(alloc: Global, open: Item, rest: &mut Rest, depth: u32) -> Result<Tall,
     ensures { length rest.new ≤ length rest.old }
 {
     if depth == 0 {
-        return Err(LoadError::NotBuilt);
+        return Err(not_built());
     }
     let Tall { exp, height } = expression(alloc, rest, depth - 1)?;
     match rest.take() {
         Some(close) => {
-            if !is_mark(&close, b")") {
-                return Err(LoadError::NotBuilt);
+            if !is_mark(&close, b')') {
+                return Err(not_built());
             }
             Ok(Tall {
                 exp: Exp::Group(
@@ -95,6 +95,6 @@ fn group(alloc: Global, open: Item, rest: &mut Rest, depth: u32) -> Result<Tall,
                 height: height.saturating_add(1),
             })
         }
-        None => Err(LoadError::NotBuilt),
+        None => Err(not_built()),
     }
 }

@@ -10,6 +10,7 @@ mod renaming;
 mod rest;
 mod scoping;
 mod starts;
+mod trivia;
 mod writing;
 
 pub use loading::{LoadError, load};

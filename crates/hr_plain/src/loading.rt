@@ -28,6 +28,13 @@ impl<T: Drop> From<AllocFailed<T>> for LoadError {
     }
 }
 
+/// The refusal of the one text that has items and isn't of the form.
+pub fn not_built() -> LoadError
+    ensures { result ≡ LoadError.NotBuilt 0 }
+{
+    LoadError::NotBuilt { text: 0 }
+}
+
 /// The lexer's refusal of the one text.
 fn unread(error: LexError) -> LoadError {
     match error {
@@ -46,7 +53,7 @@ pub fn load(alloc: Global, bytes: &[u8]) -> Result<Module, LoadError>
         Err(error) => return Err(unread(error)),
     };
     if !are_plain(&items) {
-        return Err(NOT_BUILT);
+        return Err(not_built());
     }
     let Items { list, tail } = items;
     let equations = equations(alloc, list.list)?;
@@ -54,6 +61,6 @@ pub fn load(alloc: Global, bytes: &[u8]) -> Result<Module, LoadError>
     if is_scoped(alloc, &tree).map_err(LoadError::Memory)? {
         Ok(tree)
     } else {
-        Err(NOT_BUILT)
+        Err(not_built())
     }
 }

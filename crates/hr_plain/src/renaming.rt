@@ -1,11 +1,13 @@
-ghost use Rattle.std.specs.Prelude.{◌≡◌, IfOk, IfSome};
+ghost use Rattle.std.specs.Prelude.{◌≡◌, List, ℕ, IfErr, IfOk, IfSome, MatchOption};
 ghost use Rattle.hr_tree.specs.Yields.{items_of};
-ghost use Rattle.hr_plain.specs.Renaming.{IsFound, IsRenamed, Renames, is_spelled};
+ghost use Rattle.hr_plain.specs.Form.{IsPlain};
+ghost use Rattle.hr_plain.specs.Renaming.{IsFound, IsRenamed, IsWhy, NoName, Respelled, is_spelled};
 
 use crate::binding::{occurrences, owner_of};
 use crate::rest::is_variable;
-use crate::writing::{is_varid, respelled};
+use crate::writing::respelled;
 use hr_base::{Items, Place, Pos, Text};
+use hr_lexer::is_varid;
 use hr_rules::join;
 use hr_tree::{Module, at};
 use std::alloc::{AllocError, Global};
@@ -58,7 +60,9 @@ pub fn rename(
     pos: Pos,
     new: &Text,
 ) -> Result<Text, Why>
-    ensures { IfOk result (IsRenamed tree.now «module».now pos new.now) }
+    requires { (bytes : List ℕ) × IsPlain bytes tree.now }
+    ensures renamed { IfOk result (IsRenamed tree.now «module».now pos new.now) }
+    ensures refused { IfErr result (IsWhy tree.now «module».now pos new.now) }
 {
     let items = hr_tree::items(alloc, tree).map_err(Why::Memory)?;
     let Some((lexeme, old)) = named_at(tree, &items, module, pos) else {
@@ -70,7 +74,8 @@ pub fn rename(
     if is_spelled(&items, new) {
         return Err(Why::NotBuilt);
     }
-    let text = renamed_at(alloc, tree, &items, lexeme, old, new).map_err(Why::Memory)?;
+    let items = respelled_at(alloc, tree, &items, lexeme, old, new).map_err(Why::Memory)?;
+    let text = join(alloc, &items).map_err(Why::Memory)?;
     if text.len() > MODULE_LIMIT {
         return Err(Why::OverLimit);
     }
@@ -98,22 +103,21 @@ fn is_spelled(items: &Items, text: &Text) -> bool
         .any(|item| item.lexeme.text == *text)
 }
 
-/// The text with every occurrence of the name at the lexeme respelled.
-fn renamed_at(
+/// The items with every occurrence of the name at the lexeme respelled.
+fn respelled_at(
     alloc: Global,
     tree: &Module,
     items: &Items,
     lexeme: usize,
     old: &Text,
     new: &Text,
-) -> Result<Text, AllocError>
+) -> Result<Items, AllocError>
     requires { items.now ≡ items_of tree.now }
-    ensures { IfOk result (Renames tree.now lexeme old.now new.now) }
+    ensures { IfOk result (Respelled tree.now lexeme old.now new.now) }
 {
     let owner = owner_of(tree, lexeme, old);
     let marks = occurrences(alloc, tree, &owner, old)?;
-    let respelled = respelled(alloc, items, marks.as_slice(), new)?;
-    join(alloc, &respelled)
+    respelled(alloc, items, marks.as_slice(), new)
 }
 
 /// The number and the text of the variable that begins at the position of the module.
@@ -124,7 +128,7 @@ fn named_at<'a>(
     pos: Pos,
 ) -> Option<(usize, &'a Text)>
     requires { items.now ≡ items_of tree.now }
-    ensures { IfSome result (λ found. IsFound tree.now «module».now pos found.0 found.1.now) }
+    ensures { MatchOption result (NoName tree.now «module».now pos) (λ found. IsFound tree.now «module».now pos found.0 found.1.now) }
 {
     if !module.is(b"Main") {
         return None;

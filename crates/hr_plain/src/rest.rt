@@ -1,6 +1,7 @@
 ghost use Rattle.std.specs.Prelude.{◌≡◌, ◌==◌, ◌++◌, [], length};
 ghost use Rattle.std.specs.Option.{option_to_list, option_copied};
 ghost use Rattle.hr_plain.specs.Reading.{first_of};
+ghost use Rattle.hr_plain.specs.Form.{is_integer, is_mark, is_plain_variable};
 ghost use Rattle.hr_plain.specs.Scoping.{is_variable};
 
 use hr_base::{Class, Item};
@@ -63,11 +64,29 @@ pub fn is_variable(item: &Item) -> bool
     }
 }
 
-pub fn is_integer(item: &Item) -> bool {
-    item.lexeme.class == Class::Integer
+/// Whether the lexeme is an ASCII variable.
+pub fn is_plain_variable(item: &Item) -> bool
+    ensures { result ≡ is_plain_variable item.now }
+{
+    is_variable(item) && item.lexeme.text.as_slice().is_ascii()
 }
 
-/// Whether the lexeme is this special or reserved operator.
-pub fn is_mark(item: &Item, mark: &[u8]) -> bool {
-    item.lexeme.text.is(mark)
+/// Whether the lexeme is an integer.
+pub fn is_integer(item: &Item) -> bool
+    ensures { result ≡ is_integer item.now }
+{
+    match item.lexeme.class {
+        Class::Integer => true,
+        _ => false,
+    }
+}
+
+/// Whether the lexeme is this one character.
+pub fn is_mark(item: &Item, mark: u8) -> bool
+    ensures { result ≡ is_mark mark item.now }
+{
+    match item.lexeme.text.as_slice() {
+        [only] => *only == mark,
+        _ => false,
+    }
 }

@@ -114,7 +114,10 @@ fn texts_that_are_not_of_the_form(rt: HostRuntime) {
     ];
     for text in rows {
         let answer = load(rt.alloc(), text.as_bytes());
-        assert!(rt; matches!(answer, Err(LoadError::NotBuilt)), "{text:?}");
+        assert!(rt;
+            matches!(answer, Err(LoadError::NotBuilt { text: 0 })),
+            "{text:?}"
+        );
     }
     for text in [
         "",

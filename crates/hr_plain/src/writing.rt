@@ -1,8 +1,8 @@
 ghost use Rattle.std.specs.Prelude.{◌≡◌, length, IfOk};
 ghost use Rattle.hr_plain.specs.Target.{IsParted, Respells, RespellsAll};
 
-use hr_base::{Class, Item, Items, Lexeme, Seq, Text};
-use hr_lexer::{LexError, lex};
+use hr_base::{Item, Items, Lexeme, Seq, Text};
+use hr_lexer::are_apart;
 use std::alloc::{AllocError, Global};
 
 /// The items with the new text in place of that of each marked lexeme. A blank is put before it where
@@ -21,12 +21,21 @@ pub fn respelled(
     let olds = items.list.as_slice();
     for (place, item) in olds.iter().enumerate() {
         list.push(respelled_item(alloc, item, marks[place], before, new)?)?;
-        before = item.lexeme.text.as_slice();
+        before = text_of(item, marks[place], new);
     }
     Ok(Items {
         list: Seq { list },
         tail: Text::from_slice(alloc, items.tail.as_slice())?,
     })
+}
+
+/// The text of the item, which is the new one if it is marked.
+fn text_of<'a>(item: &'a Item, marked: bool, new: &'a Text) -> &'a [u8] {
+    if marked {
+        new.as_slice()
+    } else {
+        item.lexeme.text.as_slice()
+    }
 }
 
 /// An item with the new text, if it is marked; `before` is the text of the lexeme before it.
@@ -37,7 +46,7 @@ fn respelled_item(
     before: &[u8],
     new: &Text,
 ) -> Result<Item, AllocError>
-    ensures { IfOk result (Respells new.now marked item.now) }
+    ensures { IfOk result (Respells new.now marked before.now item.now) }
 {
     if !marked {
         return item.clone();
@@ -56,35 +65,11 @@ fn respelled_item(
 /// What stands before the new text: what stood there, or one blank where nothing did and the two
 /// lexemes would not be read apart.
 fn parted(alloc: Global, trivia: &Text, before: &[u8], new: &Text) -> Result<Text, AllocError>
-    ensures { IfOk result (IsParted trivia.now) }
+    ensures { IfOk result (IsParted new.now before.now trivia.now) }
 {
     if trivia.is_empty() && !before.is_empty() && !are_apart(alloc, before, new.as_slice())? {
         Text::from_slice(alloc, b" ")
     } else {
         trivia.clone()
-    }
-}
-
-/// Whether two lexemes are read as they are where nothing stands between them.
-fn are_apart(alloc: Global, before: &[u8], after: &[u8]) -> Result<bool, AllocError> {
-    let mut both = Vec::from_slice(alloc, before)?;
-    both.extend_from_slice(after)?;
-    match lex(alloc, both.as_slice()) {
-        Ok(items) => Ok(
-            matches!(items.list.as_slice(), [first, _] if first.lexeme.text.is(before)),
-        ),
-        Err(LexError::NotBuilt) => Ok(false),
-        Err(LexError::Memory(error)) => Err(error),
-    }
-}
-
-/// Whether the text is one varid.
-pub fn is_varid(alloc: Global, text: &[u8]) -> Result<bool, AllocError> {
-    match lex(alloc, text) {
-        Ok(items) => Ok(
-            matches!(items.list.as_slice(), [only] if only.lexeme.text.is(text) && only.lexeme.class == Class::VarId),
-        ),
-        Err(LexError::NotBuilt) => Ok(false),
-        Err(LexError::Memory(error)) => Err(error),
     }
 }
