@@ -1,9 +1,9 @@
 -- The plain form of a module: equations over variables, integers, applications and parentheses (of the
 -- Haskell 98 Report's sections 3.2, 3.3 and 4.4.3), one part after another at the margin.
 use Rattle.std.specs.Prelude.{◌≡◌, ℕ, Bool, true, false, not, ◌&&◌, ◌||◌, ◌==◌, nat_eq, nat_le, nat_lt, List, [], ◌∷◌, ◌++◌, length, map, All, if◌then◌else◌, Option, Some, None}
-use Rattle.std.specs.List.{filter, flat_map, last_or, list_all, list_any}
+use Rattle.std.specs.List.{IsDistinct, filter, flat_map, last_or, list_all, list_any}
 use Rattle.std.specs.Cmp.Lexicographic.{pointwise}
-use Rattle.std.specs.Set.{IsDistinct}
+
 use Rattle.hr_base.specs.declared.lexeme.Class.{Class}
 use Rattle.hr_base.specs.declared.lexeme.Item.{Item}
 use Rattle.hr_rules.specs.Letters.{is_newline}
