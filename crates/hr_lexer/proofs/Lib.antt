@@ -2,6 +2,7 @@ pub mod Agreeing
 pub mod Bytes
 pub mod ClosedRead
 pub mod EscapesRead
+pub mod Exactly
 pub mod FloatsRead
 pub mod FrontRuns
 pub mod Halts
