@@ -1,5 +1,5 @@
 -- A text that is refused has no items, and is refused for one cause.
-use Rattle.std.proofs.Common.{◌≡◌, ℕ, ◌+◌, ◌<◌, ◌≤◌, Bool, true, false, cond, ◌&&◌, ◌==◌, ◌⊎◌, inl, inr, List, [], ◌∷◌, ◌++◌, length, take, drop, Some, None, refl, sym, ap, subst, ◌∙◌, true≢false, arith, take-append-drop}
+use Rattle.std.proofs.Common.{◌≡◌, ℕ, ◌+◌, ◌<◌, ◌≤◌, Bool, true, false, cond, ◌&&◌, ◌==◌, ◌⊎◌, inl, inr, List, [], ◌∷◌, ◌++◌, length, take, drop, Some, None, Result, Ok, Err, IfOk, IfErr, refl, sym, ap, subst, ◌∙◌, true≢false, arith, take-append-drop}
 use Rattle.std.proofs.lemmas.Bool.{eqb-true}
 use Rattle.std.proofs.lemmas.List.{take_all}
 use Rattle.std.proofs.lemmas.Slice.Eq.{bytes_eq-Decides}
@@ -20,9 +20,10 @@ use Rattle.hr_rules.specs.Lexing.Trivia.{none, more}
 use Rattle.hr_rules.specs.Lexing.Lexes.{ends, goes}
 use Rattle.hr_rules.specs.Stops.{StopsAt}
 use Rattle.hr_rules.proofs.Apart.{piece_text, rules_keep_apart}
+use Rattle.hr_rules.proofs.Reading.{one_reading_lem}
 use Rattle.hr_rules.proofs.Stops.{one_stop_lem, stopped_has_none_lem}
 use Rattle.hr_lexer.specs.declared.error.LexError.{LexError}
-use Rattle.hr_lexer.specs.Refusals.{longest_text, opens_comment, begins_wide, wide_by, Stuck, IsStop, IsCause}
+use Rattle.hr_lexer.specs.Refusals.{longest_text, opens_comment, begins_wide, wide_by, Stuck, IsStop, IsCause, OrMemory, Reads, Refuses}
 use Rattle.hr_lexer.proofs.Bytes.{both_left, class_are}
 
 -- what has items is UTF-8
@@ -177,3 +178,24 @@ none_by bytes error items short lexes (inr a) = no_items bytes error items a.1 l
 -- a text with items that is not too long is not refused
 pub no_cause : (bytes : List ℕ) (error : LexError) (items : Items) → length bytes ≤ longest_text → LexesText bytes items → ¬ (IsCause bytes error)
 no_cause bytes error items short lexes c = none_by bytes error items short lexes (cause bytes error c)
+
+or_memory : (P Q : LexError → Type 0) (error : LexError) → (P error → Q error) → OrMemory P error → OrMemory Q error
+or_memory P Q LexError.TooLong f p = f p
+or_memory P Q (LexError.BadUtf8 n) f p = f p
+or_memory P Q (LexError.OpenComment n) f p = f p
+or_memory P Q (LexError.LiteralTooWide n) f p = f p
+or_memory P Q (LexError.BadLexeme n) f p = f p
+or_memory P Q (LexError.Memory m) f p = p
+
+-- a call that reads right, and refuses for a cause, answers so exactly
+module _ (bytes : List ℕ) where
+  pub refuses : (answer : Result Items LexError) → length bytes ≤ longest_text → IfOk answer (λ items. LexesText bytes items) → IfErr answer (OrMemory (IsStop bytes))
+      → (error : LexError) → IsCause bytes error → Refuses error answer
+  refuses (Ok items) short read refused error c = no_cause bytes error items short read c
+  refuses (Err found) short read refused error c =
+      or_memory (IsStop bytes) (λ other. other ≡ error) found (λ stop. one_by bytes found error (inr (short, stop)) (cause bytes error c)) refused
+
+  pub reads : (answer : Result Items LexError) → IfOk answer (λ items. LexesText bytes items) → IfErr answer (OrMemory (IsStop bytes))
+      → (items : Items) → LexesText bytes items → Reads items answer
+  reads (Ok found) read refused items lexes = one_reading_lem bytes found items read lexes
+  reads (Err found) read refused items lexes = or_memory (IsStop bytes) (λ error. ⊥) found (λ stop. no_items bytes found items stop lexes) refused
