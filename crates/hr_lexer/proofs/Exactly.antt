@@ -8,7 +8,8 @@ use Rattle.std.specs.List.{starts_with}
 use Rattle.std.specs.Option.{is_some}
 use Rattle.std.specs.Prelude.{nat_eq}
 use Rattle.std.specs.Str.{chars, is_utf8, IsUtf8, IsValidUpTo}
-use lib.Utf8.{encode, encodes}
+use Rattle.std.specs.declared.alloc.AllocError.{AllocError}
+use lib.Utf8.{encode}
 use Rattle.hr_base.specs.declared.lexeme.Class.{Class}
 use Rattle.hr_base.specs.declared.lexeme.Item.{Item}
 use Rattle.hr_base.specs.declared.lexeme.Items.{Items}
@@ -31,7 +32,7 @@ trivia_text : {trivia after : List ℕ} → Trivia is_piece trivia after → IsU
 trivia_text (none after) = IsUtf8-nil
 trivia_text (more piece trivia after is rest) = IsUtf8-append piece trivia (piece_text piece (trivia ++ after) is) (trivia_text rest)
 
-lexeme_text : (text after : List ℕ) (class : Class) → class_of text after ≡ Some class → IsUtf8 text
+pub lexeme_text : (text after : List ℕ) (class : Class) → class_of text after ≡ Some class → IsUtf8 text
 unfolding class_of
 lexeme_text text after class e =
     let are : are_utf8 text after ≡ true = class_are (are_utf8 text after) (spelled_class (chars text) (chars after)) (ap is_some e) in
@@ -186,6 +187,14 @@ or_memory P Q (LexError.OpenComment n) f p = f p
 or_memory P Q (LexError.LiteralTooWide n) f p = f p
 or_memory P Q (LexError.BadLexeme n) f p = f p
 or_memory P Q (LexError.Memory m) f p = p
+
+pub but_memory : (P : LexError → Type 0) (error : LexError) → ((m : AllocError) → ¬ (error ≡ LexError.Memory m)) → OrMemory P error → P error
+but_memory P LexError.TooLong f p = p
+but_memory P (LexError.BadUtf8 n) f p = p
+but_memory P (LexError.OpenComment n) f p = p
+but_memory P (LexError.LiteralTooWide n) f p = p
+but_memory P (LexError.BadLexeme n) f p = p
+but_memory P (LexError.Memory m) f p = absurd (f m refl)
 
 -- a call that reads right, and refuses for a cause, answers so exactly
 module _ (bytes : List ℕ) where

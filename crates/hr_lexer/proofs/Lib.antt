@@ -12,6 +12,7 @@ pub mod Longest
 pub mod Marks
 pub mod NamesRead
 pub mod NumbersRead
+pub mod OneWord
 pub mod Pieces
 pub mod PiecesRead
 pub mod Progress
