@@ -1,10 +1,9 @@
--- A text that is one lexeme, and two that are read side by side.
-use Rattle.std.proofs.Common.{◌≡◌, ℕ, ◌+◌, ◌≤◌, Bool, true, false, cond, not, ◌&&◌, ◌==◌, List, [], ◌∷◌, ◌++◌, length, take, drop, Option, Some, None, refl, sym, ap, subst, ◌∙◌, true≢false, arith, append-nil, length-append}
+-- A text is a variable identifier exactly where that is the one lexeme read of it.
+use Rattle.std.proofs.Common.{◌≡◌, ℕ, ◌+◌, Bool, true, false, cond, not, ◌&&◌, ◌==◌, List, [], ◌∷◌, ◌++◌, length, take, drop, Option, Some, None, refl, sym, ap, subst, ◌∙◌, true≢false, arith, append-nil, length-append}
 use Rattle.std.specs.List.{starts_with}
 use Rattle.std.specs.Prelude.{nat_eq, nat_le}
 use Rattle.std.specs.Str.{chars, IsUtf8}
 use Rattle.std.proofs.lemmas.Str.{chars_past_char}
-use lib.Utf8.{encode}
 use Rattle.hr_base.specs.declared.lexeme.Class.{Class}
 use Rattle.hr_base.specs.declared.lexeme.Item.{Item}
 use Rattle.hr_base.specs.declared.lexeme.Items.{Items}
@@ -15,8 +14,8 @@ use Rattle.hr_rules.specs.Operators.{is_dashes, is_reserved_operator}
 use Rattle.hr_rules.specs.Qualified.{qualified, name_class, conid_class}
 use Rattle.hr_rules.specs.Numbers.{ends_float, integer_class, integer_value, greatest_integer}
 use Rattle.hr_rules.specs.Lexemes.{is_empty, spelled_class, spelled_class_by, spelled_bars, spelled_bars_by, are_utf8, class_of, is_piece, bars, byte_order_mark, mark_len, led_by, LexesText}
-use Rattle.hr_rules.specs.Lexing.{Trivia, Fits, Lexes}
-use Rattle.hr_rules.specs.Lexing.Trivia.{none, more}
+use Rattle.hr_rules.specs.Lexing.{Fits, Lexes}
+use Rattle.hr_rules.specs.Lexing.Trivia.{none}
 use Rattle.hr_rules.specs.Lexing.Lexes.{ends, goes}
 use Rattle.hr_rules.proofs.Reading.{one_reading_lem, readings_join_lem}
 use Rattle.ucd_category.specs.GeneralCategory.{general_category}
@@ -24,10 +23,10 @@ use Rattle.ucd_category.specs.GeneralCategoryRows.{general_category_rows}
 use Rattle.ucd_table.specs.Rows.{value_in}
 use Rattle.hr_lexer.proofs.Exactly.{lexeme_text}
 use Rattle.hr_lexer.proofs.Marks.{begins_mark}
-use Rattle.hr_lexer.specs.Words.{AreApart, AreLexemes, HasItems, IsVarId, IsWord, Tells}
+use Rattle.hr_lexer.specs.Words.{HasItems, IsVarId, IsWord, Tells}
 
 -- a list of no length
-empty : (xs : List ℕ) → length xs ≡ 0 → xs ≡ []
+pub empty : (xs : List ℕ) → length xs ≡ 0 → xs ≡ []
 empty [] e = refl
 empty (x ∷ xs) e = absurd (omega arith)
 
@@ -168,11 +167,16 @@ lexes_word text e =
 -- a variable identifier is read as one lexeme
 word_items : (text : List ℕ) → IsVarId text → LexesText text (record { list = word text ∷ []; tail = [] })
 word_items text e =
-    let none_first : mark_len text ≡ 0 = unmarked text e in
-    (word text ∷ [], ([], (
-      subst (λ n. Lexes class_of is_piece bars (drop n text) (word text ∷ []) []) (sym none_first) (lexes_word text e),
-      ap (λ n. led_by (take n text) (word text ∷ []) []) (sym none_first),
-    )))
+    let none_first : mark_len text ≡ 0 = unmarked text e in (
+      word text ∷ [],
+      (
+        [],
+        (
+          subst (λ n. Lexes class_of is_piece bars (drop n text) (word text ∷ []) []) (sym none_first) (lexes_word text e),
+          ap (λ n. led_by (take n text) (word text ∷ []) []) (sym none_first),
+        ),
+      ),
+    )
 
 -- the answer of a test on its items
 module _ (text : List ℕ) where
@@ -189,49 +193,3 @@ module _ (text : List ℕ) where
 
   pub no_word : HasItems text None → ¬ (IsVarId text)
   no_word has e = has (record { list = word text ∷ []; tail = [] }) (word_items text e)
-
--- two lexemes that are all of a text
-abbrev plain : Class → List ℕ → Item
-plain class text = record { trivia = []; lexeme = record { class = class; text = text } }
-
-module _ (before text : List ℕ) where
-  abbrev pair : Class → Class → Items
-  pair class other = record { list = plain class before ∷ plain other text ∷ []; tail = [] }
-
-  side_by_side : (first second : Item) (tail : List ℕ) → LexesText (before ++ text) (record { list = first ∷ second ∷ []; tail = tail })
-      → first.lexeme.text ≡ before → second.lexeme.text ≡ text → AreApart before text
-  side_by_side first second tail lexes p q =
-      let items : Items = record { list = first ∷ second ∷ []; tail = tail } in
-      let all : before ++ text ≡ first.trivia ++ (first.lexeme.text ++ (second.trivia ++ (second.lexeme.text ++ tail))) = readings_join_lem (before ++ text) items lexes in
-      let whole : length before + length text ≡ length first.trivia + (length first.lexeme.text + (length second.trivia + (length second.lexeme.text + length tail))) =
-      sym (length-append before text) ∙ ap length all ∙ length-append first.trivia (first.lexeme.text ++ (second.trivia ++ (second.lexeme.text ++ tail)))
-      ∙ ap (λ n. length first.trivia + n) (length-append first.lexeme.text (second.trivia ++ (second.lexeme.text ++ tail))
-      ∙ ap (λ n. length first.lexeme.text + n) (length-append second.trivia (second.lexeme.text ++ tail)
-      ∙ ap (λ n. length second.trivia + n) (length-append second.lexeme.text tail))) in
-      let front : length first.lexeme.text ≡ length before = ap length p in
-      let back : length second.lexeme.text ≡ length text = ap length q in
-      let none_first : first.trivia ≡ [] = empty first.trivia (omega arith) in
-      let none_second : second.trivia ≡ [] = empty second.trivia (omega arith) in
-      let none_behind : tail ≡ [] = empty tail (omega arith) in
-      let same : items ≡ pair first.lexeme.class second.lexeme.class = λ k. record {
-        list = record { trivia = none_first k; lexeme = record { class = first.lexeme.class; text = p k } }
-            ∷ record { trivia = none_second k; lexeme = record { class = second.lexeme.class; text = q k } } ∷ [];
-        tail = none_behind k;
-      } in
-      (first.lexeme.class, second.lexeme.class, subst (LexesText (before ++ text)) same lexes)
-
-  apart_by : (b : Bool) (items : List Item) (tail : List ℕ) → LexesText (before ++ text) (record { list = items; tail = tail }) → Tells b (AreLexemes items before text) → Tells b (AreApart before text)
-  apart_by true [] tail lexes are = absurd are
-  apart_by true (first ∷ []) tail lexes are = absurd are
-  apart_by true (first ∷ second ∷ []) tail lexes are = side_by_side first second tail lexes are.0 are.1
-  apart_by true (first ∷ second ∷ third ∷ items) tail lexes are = absurd are
-  apart_by false items tail lexes are = λ apart.
-      let same : record { list = items; tail = tail } ≡ pair apart.0 apart.1 =
-      one_reading_lem (before ++ text) (record { list = items; tail = tail }) (pair apart.0 apart.1) lexes apart.2 in
-      are (subst (λ x. AreLexemes x before text) (ap (λ x. x.list) (sym same)) (refl, refl))
-
-  pub tells_apart : (both : List ℕ) → both ≡ before ++ text → (b : Bool) (items : Items) → HasItems both (Some items) → Tells b (AreLexemes items.list before text) → Tells b (AreApart before text)
-  tells_apart both e b items has are = apart_by b items.list items.tail (subst (λ x. LexesText x items) e has) are
-
-  pub never_apart : (both : List ℕ) → both ≡ before ++ text → HasItems both None → ¬ (AreApart before text)
-  never_apart both e has apart = has (pair apart.0 apart.1) (subst (λ x. LexesText x (pair apart.0 apart.1)) (sym e) apart.2)

@@ -1,5 +1,5 @@
 -- When a text is refused, and where.
-use Rattle.std.specs.Prelude.{◌≡◌, ◌<◌, ◌≤◌, ◌+◌, ℕ, Bool, true, false, not, if◌then◌else◌, List, [], ◌∷◌, length, drop, ⊤, Result, MatchResult}
+use Rattle.std.specs.Prelude.{◌≡◌, ◌<◌, ◌≤◌, ◌+◌, ℕ, Bool, true, false, if◌then◌else◌, List, [], ◌∷◌, length, drop, ⊤, Result, MatchResult}
 use Rattle.std.specs.Str.{chars, IsUtf8, IsValidUpTo}
 use Rattle.hr_base.specs.declared.lexeme.Items.{Items}
 use Rattle.hr_rules.specs.declared.character.Kind.{Kind}
@@ -51,11 +51,11 @@ abbrev pub OrMemory : (LexError → Type 0) → LexError → Type 0
 OrMemory Is (LexError.Memory _) = Unit {0}
 OrMemory Is error = Is error
 
--- with this refusal, and no other answer
+-- a call answers with this refusal, or has no memory
 abbrev pub Refuses : LexError → Result Items LexError → Type 0
 Refuses error answer = MatchResult answer (λ items. ⊥) (OrMemory (λ other. other ≡ error))
 
--- with these items, and no other answer
+-- a call answers with these items, or has no memory
 abbrev pub Reads : Items → Result Items LexError → Type 0
 Reads items answer = MatchResult answer (λ others. others ≡ items) (OrMemory (λ error. ⊥))
 

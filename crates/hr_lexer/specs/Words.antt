@@ -3,7 +3,6 @@ use Rattle.std.specs.Prelude.{◌≡◌, ℕ, Bool, true, false, List, [], ◌�
 use Rattle.hr_base.specs.declared.lexeme.Class.{Class}
 use Rattle.hr_base.specs.declared.lexeme.Item.{Item}
 use Rattle.hr_base.specs.declared.lexeme.Items.{Items}
-use Rattle.hr_base.specs.declared.lexeme.Lexeme.{Lexeme}
 use Rattle.hr_rules.specs.Lexemes.{class_of, LexesText}
 
 -- a test has told whether this is so

@@ -54,6 +54,7 @@ fn is_word(items: &[Item], text: &[u8]) -> bool
     }
 }
 
+/// Whether the lexeme is a variable identifier of this text.
 fn is_varid_of(lexeme: &Lexeme, text: &[u8]) -> bool
     ensures { Tells result ((lexeme.now.class ≡ Class.VarId) × (lexeme.now.text ≡ text.now)) }
 {
@@ -70,5 +71,56 @@ fn are_lexemes(items: &[Item], before: &[u8], text: &[u8]) -> bool
     match items {
         [first, second] => first.lexeme.text.is(before) && second.lexeme.text.is(text),
         _ => false,
+    }
+}
+
+#[cfg(test)]
+mod tests {
+    use crate::{are_apart, is_varid};
+    use std::test::Fail;
+
+    #[test]
+    fn a_varid_is_one_lexeme_of_its_class(rt: HostRuntime) -> Result<(), Fail> {
+        for (text, expected) in [
+            (b"x".as_slice(), true),
+            (b"a'b_0", true),
+            (b"_x", true),
+            (b"\xC3\xA9t\xC3\xA9", true),
+            (b"", false),
+            (b"_", false),
+            (b"of", false),
+            (b"X", false),
+            (b"F.x", false),
+            (b"x y", false),
+            (b" x", false),
+            (b"x ", false),
+            (b"\xEF\xBB\xBFx", false),
+            (b"x\xFF", false),
+            (b"x\x00", false),
+        ] {
+            assert_eq!(rt; is_varid(rt.alloc(), text)?, expected);
+        }
+        Ok(())
+    }
+
+    #[test]
+    fn texts_are_apart_where_each_is_read(rt: HostRuntime) -> Result<(), Fail> {
+        for (before, text, expected) in [
+            (b"x".as_slice(), b"+".as_slice(), true),
+            (b"(", b"x", true),
+            (b"F", b"+", true),
+            (b"1", b"x", true),
+            (b"x", b"y", false),
+            (b"F", b".", true),
+            (b"F.", b"x", false),
+            (b"-", b"-", false),
+            (b"{", b"-", false),
+            (b"x", b"", false),
+            (b"x", b" y", false),
+            (b"1.0", b"e5", false),
+        ] {
+            assert_eq!(rt; are_apart(rt.alloc(), before, text)?, expected);
+        }
+        Ok(())
     }
 }

@@ -1,6 +1,6 @@
 use Rattle.std.proofs.Common.{rules, ◌≡◌, ◌++◌, ℕ, List, Some, None}
 use Rattle.hr_lexer.specs.Words.{HasItems}
-use Rattle.hr_lexer.proofs.OneWord.{tells_apart, never_apart}
+use Rattle.hr_lexer.proofs.SideBySide.{tells_apart, never_apart}
 use Rattle.hr_lexer.proofs.apart.are_apart.Goals as goal
 
 pub returns-in-Some : goal.returns-in-Some
