@@ -1,4 +1,4 @@
-use Rattle.std.proofs.Common.{rules, ◌≤◌, ℕ, List, length, arith}
+use Rattle.std.proofs.Common.{rules, ◌≤◌, ℕ, List, length}
 use Rattle.hr_lexer.specs.Refusals.{longest_text}
 use Rattle.hr_lexer.proofs.Exactly.{refuses, reads}
 use Rattle.hr_lexer.proofs.lexing.lex.Goals as goal
