@@ -1,4 +1,5 @@
 pub mod Report
 pub mod Runs
 pub mod Shown
+pub mod Steps
 pub mod Words

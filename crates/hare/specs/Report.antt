@@ -1,7 +1,11 @@
 -- The report of a run, as bytes: one line for the command, then what changed or what went wrong.
-use Rattle.std.specs.Prelude.{ℕ, List, [], ◌∷◌, ◌++◌, codes}
+use Rattle.std.specs.Prelude.{ℕ, List, [], ◌∷◌, ◌++◌, codes, Option, Some, None}
 use Rattle.std.specs.Fmt.{decimal}
 use Rattle.hr_base.specs.declared.place.Pos.{Pos}
+use Rattle.hr_lexer.specs.declared.error.LexError.{LexError}
+use Rattle.hr_plain.specs.declared.loading.LoadError.{LoadError}
+use Rattle.hr_plain.specs.declared.renaming.Why.{Why}
+use Rattle.hare.specs.Words.{Renaming}
 
 -- a line: the text and a linefeed (10)
 abbrev pub line : List ℕ → List ℕ
@@ -10,20 +14,59 @@ line text = text ++ (10 ∷ [])
 abbrev pub bad_words : List ℕ
 bad_words = line (codes "words: refused")
 
-abbrev pub not_accepted : List ℕ → List ℕ
-not_accepted file = line (codes "not accepted: 25 " ++ file)
+-- the number of a cause, and what shows it, behind a blank (32)
+abbrev pub cause : List ℕ → List ℕ → List ℕ
+cause number shown = codes "not accepted: " ++ (number ++ (32 ∷ shown))
 
-abbrev pub read_fault : List ℕ → List ℕ
-read_fault file = line (codes "read fault: " ++ file)
+-- a file, a place in it, and the line's end
+abbrev pub at_place : List ℕ → ℕ → List ℕ
+at_place file place = file ++ (32 ∷ line (decimal place))
 
-abbrev pub over_limit : List ℕ → List ℕ
-over_limit file = line (codes "over limit: " ++ file)
+-- why the lexer refuses the file: its number, and the place in bytes from 0; nothing for want of memory
+abbrev pub unlexed : List ℕ → LexError → Option (List ℕ)
+unlexed file LexError.TooLong = Some (cause (codes "5") (line file))
+unlexed file (LexError.BadUtf8 place) = Some (cause (codes "1") (at_place file place))
+unlexed file (LexError.OpenComment place) = Some (cause (codes "3") (at_place file place))
+unlexed file (LexError.LiteralTooWide place) = Some (cause (codes "4") (at_place file place))
+unlexed file (LexError.BadLexeme place) = Some (cause (codes "2") (at_place file place))
+unlexed file (LexError.Memory _) = None
+
+abbrev pub not_accepted : Renaming → LoadError → Option (List ℕ)
+not_accepted renaming (LoadError.Lex text error) = unlexed renaming.file error
+not_accepted renaming (LoadError.NotBuilt text) = Some (cause (codes "25") (line renaming.file))
+not_accepted renaming (LoadError.Memory _) = None
+
+abbrev pub read_fault : Renaming → List ℕ
+read_fault renaming = line (codes "read fault: " ++ renaming.file)
+
+abbrev pub over_limit : Renaming → List ℕ
+over_limit renaming = line (codes "over limit: " ++ renaming.file)
 
 abbrev pub done_line : List ℕ
 done_line = line (codes "1 rename: done")
 
-abbrev pub done : List ℕ → List ℕ
-done file = done_line ++ (line (codes "changed 1") ++ line file)
+abbrev pub done : Renaming → List ℕ
+done renaming = done_line ++ (line (codes "changed 1") ++ line renaming.file)
 
-abbrev pub write_fault : List ℕ → List ℕ
-write_fault file = done_line ++ line (codes "write fault: " ++ file)
+abbrev pub write_fault : Renaming → List ℕ
+write_fault renaming = done_line ++ line (codes "write fault: " ++ renaming.file)
+
+-- a refusal's line ends, and nothing changed
+abbrev pub unchanged : List ℕ
+unchanged = 10 ∷ line (codes "changed 0")
+
+-- a module and a position in it, behind colons (58), and then more
+abbrev pub place_then : List ℕ → Pos → List ℕ → List ℕ
+place_then module_name pos behind = module_name ++ (58 ∷ (decimal pos.line ++ (58 ∷ (decimal pos.col ++ behind))))
+
+-- no name begins where the renaming looks for one
+abbrev pub nothing_at : List ℕ → Pos → List ℕ
+nothing_at module_name pos = codes "1 rename: refused 31 " ++ place_then module_name pos unchanged
+
+-- the refusal's number and its fields; nothing for want of memory
+abbrev pub refused : Renaming → Why → Option (List ℕ)
+refused renaming (Why.NoSuchThing _) = Some (nothing_at renaming.module_name renaming.pos)
+refused renaming Why.WrongForm = Some (codes "1 rename: refused 33" ++ unchanged)
+refused renaming Why.NotBuilt = Some (codes "1 rename: refused 58" ++ unchanged)
+refused renaming Why.OverLimit = Some (codes "1 rename: refused 57" ++ unchanged)
+refused renaming (Why.Memory _) = None

@@ -1,7 +1,13 @@
 -- How a run ends: what each status says of the words, of the files and of the report.
 use Rattle.std.specs.Prelude.{◌≡◌, ℕ, List, Option, Some, None, ◌⊎◌}
 use Rattle.std.specs.FinMap.{get}
-use Rattle.hr_shelf.specs.Outside.{Files, Rose, ToldOr, replaced, appended}
+use Rattle.hr_shelf.specs.Outside.{Files, HoldsMore, Reads, Rose, ToldOr, replaced, appended, AppendsPrefix}
+use Rattle.hr_tree.specs.declared.tree.Module.{Module}
+use Rattle.hr_plain.specs.declared.loading.LoadError.{LoadError}
+use Rattle.hr_plain.specs.declared.renaming.Why.{Why}
+use Rattle.hr_plain.specs.Form.{IsPlain}
+use Rattle.hr_plain.specs.Refusals.{IsLoadRefusal}
+use Rattle.hr_plain.specs.Renaming.{IsRenamed, IsWhy, module_limit}
 use Rattle.hare.specs.declared.status.Status.{Status}
 use Rattle.hare.specs.declared.status.Status.TheVariants.{Done, StepRefused, BadWords, BadScript, NotAccepted, ReadFault, WriteFault, ReportFault, Memory, OverLimit}
 use Rattle.hare.specs.Words.{Renaming, renaming_of}
@@ -20,44 +26,73 @@ abbrev pub outside : Option Files → ℕ → ℕ → Option (List ℕ) → ℕ 
 outside told read_faults replace_faults written write_faults =
     record { told = told; read_faults = read_faults; replace_faults = replace_faults; written = written; write_faults = write_faults }
 
--- a piece was written and the status stands, or the sink refused it
-abbrev pub Reported : Option (List ℕ) → Option (List ℕ) → ℕ → ℕ → List ℕ → Status → Status → Type 0
-Reported before now faults faults_now text status result =
-    ((result ≡ status) × (now ≡ appended before text)) ⊎ ((result ≡ ReportFault) × Rose faults faults_now)
-
 -- the words are the renaming
 abbrev pub AreGood : List (List ℕ) → Renaming → Type 0
 AreGood words renaming = renaming_of words ≡ Some renaming
 
--- no file changes, and the report is written whole
-pub record Tells (before after : Outside) (text : List ℕ) : Type 0 where
-  pub files : after.told ≡ before.told
-  pub report : after.written ≡ appended before.written text
+-- the renaming is accepted: the old bytes are a text of the plain form, and the new ones are its text with the
+-- name renamed
+pub record IsStep (renaming : Renaming) (old new : List ℕ) : Type 0 where
+  pub tree : Module
+  pub plain : IsPlain old tree
+  pub renamed : IsRenamed tree renaming.module_name renaming.pos renaming.new_name new
 
--- a told shelf has the new bytes under the name, and all else as before
-abbrev pub Changes : Outside → Outside → List ℕ → Type 0
-Changes before after file = (new : List ℕ) × (after.told ≡ replaced before.told file new)
+-- the renaming is refused: the old bytes are a text of the plain form, and this is why
+pub record IsRefused (renaming : Renaming) (old : List ℕ) (why : Why) : Type 0 where
+  pub tree : Module
+  pub plain : IsPlain old tree
+  pub cause : IsWhy tree renaming.module_name renaming.pos renaming.new_name why
 
--- what each status says of a run
-abbrev pub Ends : List (List ℕ) → Outside → Outside → Status → Type 0
-Ends words before after Done =
-    (renaming : Renaming) × AreGood words renaming × Changes before after renaming.file
-    × (after.written ≡ appended before.written (report.done renaming.file))
-Ends words before after StepRefused = (renaming : Renaming) × AreGood words renaming × (after.told ≡ before.told)
-Ends words before after BadWords = (renaming_of words ≡ None) × Tells before after report.bad_words
-Ends words before after BadScript = ⊥
-Ends words before after NotAccepted =
-    (renaming : Renaming) × AreGood words renaming × Tells before after (report.not_accepted renaming.file)
-Ends words before after ReadFault =
+-- a file that a told shelf has under the name of the renaming was read
+pub record IsRead (words : List (List ℕ)) (before : Outside) (renaming : Renaming) (old : List ℕ) : Type 0 where
+  pub good : AreGood words renaming
+  pub reads : Reads before.told renaming.file old
+
+-- what each status says, where the report is written whole, of the words, of the files, of the causes and of the
+-- report's text; a status that says nothing of a report doesn't come so
+abbrev pub EndsWith : List (List ℕ) → Outside → Outside → Status → List ℕ → Type 0
+EndsWith words before after Done text =
+    (renaming : Renaming) × (old new : List ℕ) × IsRead words before renaming old × IsStep renaming old new
+    × (after.told ≡ replaced before.told renaming.file new) × (text ≡ report.done renaming)
+EndsWith words before after StepRefused text =
+    (renaming : Renaming) × (old : List ℕ) × (why : Why) × IsRead words before renaming old × IsRefused renaming old why
+    × (after.told ≡ before.told) × (Some text ≡ report.refused renaming why)
+EndsWith words before after BadWords text =
+    (renaming_of words ≡ None) × (after.told ≡ before.told) × (text ≡ report.bad_words)
+EndsWith words before after BadScript text = ⊥
+EndsWith words before after NotAccepted text =
+    (renaming : Renaming) × (old : List ℕ) × (error : LoadError) × IsRead words before renaming old × IsLoadRefusal old error
+    × (after.told ≡ before.told) × (Some text ≡ report.not_accepted renaming error)
+EndsWith words before after ReadFault text =
     (renaming : Renaming) × AreGood words renaming
     × ToldOr before.told (λ files. (get files renaming.file ≡ None) ⊎ Rose before.read_faults after.read_faults) (Rose before.read_faults after.read_faults)
-    × Tells before after (report.read_fault renaming.file)
-Ends words before after WriteFault =
-    (renaming : Renaming) × AreGood words renaming × Rose before.replace_faults after.replace_faults
-    × Tells before after (report.write_fault renaming.file)
+    × (after.told ≡ before.told) × (text ≡ report.read_fault renaming)
+EndsWith words before after WriteFault text =
+    (renaming : Renaming) × (old new : List ℕ) × IsRead words before renaming old × IsStep renaming old new
+    × Rose before.replace_faults after.replace_faults × (after.told ≡ before.told) × (text ≡ report.write_fault renaming)
+EndsWith words before after ReportFault text = ⊥
+EndsWith words before after Memory text = ⊥
+EndsWith words before after OverLimit text =
+    (renaming : Renaming) × AreGood words renaming
+    × ToldOr before.told (λ files. HoldsMore files renaming.file module_limit) (Rose before.read_faults after.read_faults)
+    × (after.told ≡ before.told) × (text ≡ report.over_limit renaming)
+
+-- a status that is told by its report
+abbrev pub Told : List (List ℕ) → Outside → Outside → Status → Type 0
+Told words before after status =
+    (text : List ℕ) × EndsWith words before after status text × (after.written ≡ appended before.written text)
+
+-- what each status says of a run: with 7 the files are those of the status in whose place it stands, and the sink
+-- took no more than a front of that one's report; with 8 nothing changed
+abbrev pub Ends : List (List ℕ) → Outside → Outside → Status → Type 0
 Ends words before after ReportFault =
     Rose before.write_faults after.write_faults
-    × ((after.told ≡ before.told) ⊎ ((renaming : Renaming) × AreGood words renaming × Changes before after renaming.file))
+    × ((status : Status) × (text : List ℕ) × EndsWith words before after status text × AppendsPrefix before.written after.written text)
 Ends words before after Memory = (after.told ≡ before.told) × (after.written ≡ before.written)
-Ends words before after OverLimit =
-    (renaming : Renaming) × AreGood words renaming × Tells before after (report.over_limit renaming.file)
+Ends words before after status = Told words before after status
+
+-- a piece was written and the status stands, or the sink refused it
+abbrev pub Reported : Option (List ℕ) → Option (List ℕ) → ℕ → ℕ → List ℕ → Status → Status → Type 0
+Reported before now faults faults_now text status result =
+    ((result ≡ status) × (now ≡ appended before text))
+    ⊎ ((result ≡ ReportFault) × Rose faults faults_now × AppendsPrefix before now text)

@@ -1,9 +1,11 @@
-ghost use Rattle.std.specs.Prelude.{◌≡◌, IfOk};
+ghost use Rattle.std.specs.Prelude.{◌≡◌, IfOk, Some};
 ghost use Rattle.std.specs.String.{string_bytes};
 ghost use Rattle.hare.specs.Report as spec;
+ghost use Rattle.hare.specs.Shown.{shown};
 
-use hr_base::{Place, Text};
-use hr_plain::{Sought, Why};
+use crate::words::Renaming;
+use hr_lexer::LexError;
+use hr_plain::{LoadError, Why};
 use std::alloc::{AllocError, Global};
 
 /// Words that are no command.
@@ -13,70 +15,86 @@ pub fn bad_words(alloc: Global) -> Result<String, AllocError>
     String::from_str(alloc, "words: refused\n")
 }
 
-/// A file that is not of the form that is read so far.
-pub fn not_accepted(alloc: Global, file: &str) -> Result<String, AllocError>
-    ensures { IfOk result (λ text. string_bytes text ≡ spec.not_accepted file.now) }
+/// A file that is not read, with the number of the cause, and its place in bytes from 0 where it has
+/// one.
+pub fn not_accepted(
+    alloc: Global,
+    command: Renaming<'_>,
+    error: &LoadError,
+) -> Result<String, AllocError>
+    ensures { IfOk result (λ text. Some (string_bytes text) ≡ spec.not_accepted (shown command.entry) error.now) }
 {
-    format!(in alloc; "not accepted: 25 {file}\n")
+    let file = command.file;
+    match error {
+        LoadError::Lex { text: _, error } => unlexed(alloc, file, error),
+        LoadError::NotBuilt { text: _ } => format!(in alloc; "not accepted: 25 {file}\n"),
+        LoadError::Memory(error) => Err(*error),
+    }
 }
 
-pub fn read_fault(alloc: Global, file: &str) -> Result<String, AllocError>
-    ensures { IfOk result (λ text. string_bytes text ≡ spec.read_fault file.now) }
+/// A file that is not lexed.
+fn unlexed(alloc: Global, file: &str, error: &LexError) -> Result<String, AllocError>
+    ensures { IfOk result (λ text. Some (string_bytes text) ≡ spec.unlexed file.now error.now) }
 {
+    match error {
+        LexError::TooLong => format!(in alloc; "not accepted: 5 {file}\n"),
+        LexError::BadUtf8 { place } => format!(in alloc; "not accepted: 1 {file} {place}\n"),
+        LexError::OpenComment { place } => format!(in alloc; "not accepted: 3 {file} {place}\n"),
+        LexError::LiteralTooWide { place } => {
+            format!(in alloc; "not accepted: 4 {file} {place}\n")
+        }
+        LexError::BadLexeme { place } => format!(in alloc; "not accepted: 2 {file} {place}\n"),
+        LexError::Memory(error) => Err(*error),
+    }
+}
+
+pub fn read_fault(alloc: Global, command: Renaming<'_>) -> Result<String, AllocError>
+    ensures { IfOk result (λ text. string_bytes text ≡ spec.read_fault (shown command.entry)) }
+{
+    let file = command.file;
     format!(in alloc; "read fault: {file}\n")
 }
 
-pub fn over_limit(alloc: Global, file: &str) -> Result<String, AllocError>
-    ensures { IfOk result (λ text. string_bytes text ≡ spec.over_limit file.now) }
+pub fn over_limit(alloc: Global, command: Renaming<'_>) -> Result<String, AllocError>
+    ensures { IfOk result (λ text. string_bytes text ≡ spec.over_limit (shown command.entry)) }
 {
+    let file = command.file;
     format!(in alloc; "over limit: {file}\n")
 }
 
-pub fn done(alloc: Global, file: &str) -> Result<String, AllocError>
-    ensures { IfOk result (λ text. string_bytes text ≡ spec.done file.now) }
+pub fn done(alloc: Global, command: Renaming<'_>) -> Result<String, AllocError>
+    ensures { IfOk result (λ text. string_bytes text ≡ spec.done (shown command.entry)) }
 {
+    let file = command.file;
     format!(in alloc; "1 rename: done\nchanged 1\n{file}\n")
 }
 
-pub fn write_fault(alloc: Global, file: &str) -> Result<String, AllocError>
-    ensures { IfOk result (λ text. string_bytes text ≡ spec.write_fault file.now) }
+pub fn write_fault(alloc: Global, command: Renaming<'_>) -> Result<String, AllocError>
+    ensures { IfOk result (λ text. string_bytes text ≡ spec.write_fault (shown command.entry)) }
 {
+    let file = command.file;
     format!(in alloc; "1 rename: done\nwrite fault: {file}\n")
 }
 
 /// A step that is refused, with the refusal's number and its fields.
-pub fn refused(alloc: Global, why: &Why) -> Result<String, AllocError> {
+pub fn refused(alloc: Global, command: Renaming<'_>, why: &Why) -> Result<String, AllocError>
+    ensures { IfOk result (λ text. Some (string_bytes text) ≡ spec.refused (shown command.entry) why.now) }
+{
     match why {
-        Why::NoSuchThing {
-            at: Sought::At(place),
-        } => nothing_at(alloc, place),
-        Why::NoSuchThing {
-            at: Sought::Name(name),
-        } => nothing_named(alloc, name),
-        Why::WrongForm => numbered(alloc, 33),
-        Why::NotBuilt => numbered(alloc, 58),
-        Why::OverLimit => numbered(alloc, 57),
+        Why::NoSuchThing { at: _ } => nothing_at(alloc, command),
+        Why::WrongForm => String::from_str(alloc, "1 rename: refused 33\nchanged 0\n"),
+        Why::NotBuilt => String::from_str(alloc, "1 rename: refused 58\nchanged 0\n"),
+        Why::OverLimit => String::from_str(alloc, "1 rename: refused 57\nchanged 0\n"),
         Why::Memory(error) => Err(*error),
     }
 }
 
-fn numbered(alloc: Global, number: u32) -> Result<String, AllocError> {
-    format!(in alloc; "1 rename: refused {number}\nchanged 0\n")
-}
-
-fn nothing_at(alloc: Global, place: &Place) -> Result<String, AllocError> {
-    let module = shown(&place.module);
-    let line = place.pos.line;
-    let col = place.pos.col;
-    format!(in alloc; "1 rename: refused 31 {module}:{line}:{col}\nchanged 0\n")
-}
-
-fn nothing_named(alloc: Global, name: &Text) -> Result<String, AllocError> {
-    let name = shown(name);
-    format!(in alloc; "1 rename: refused 31 {name}\nchanged 0\n")
-}
-
-/// The text itself; the texts of a command's words are UTF-8.
-fn shown(text: &Text) -> &str {
-    str::from_utf8(text.as_slice()).unwrap_or("")
+/// No name begins where the command looks for one.
+fn nothing_at(alloc: Global, command: Renaming<'_>) -> Result<String, AllocError>
+    ensures { IfOk result (λ text. string_bytes text ≡ spec.nothing_at command.entry.«module».now command.entry.pos) }
+{
+    let name = command.module;
+    let line = command.pos.line;
+    let col = command.pos.col;
+    format!(in alloc; "1 rename: refused 31 {name}:{line}:{col}\nchanged 0\n")
 }

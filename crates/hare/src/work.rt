@@ -1,8 +1,10 @@
 ghost use Rattle.std.specs.Prelude.{◌≡◌, ℕ, List, map, MatchResult};
 ghost use Rattle.std.specs.String.{string_bytes};
-ghost use Rattle.hr_shelf.specs.Outside.{IsReady};
-ghost use Rattle.hare.specs.Runs.{AreGood, Ends, Reported, outside};
+ghost use Rattle.hr_shelf.specs.Outside.{IsReady, Reads};
+ghost use Rattle.hr_plain.specs.Form.{IsPlain};
+ghost use Rattle.hare.specs.Runs.{AreGood, Ends, IsStep, Reported, outside};
 ghost use Rattle.hare.specs.Shown.{shown};
+ghost use Rattle.hare.specs.Steps.{IsOutcome};
 
 use crate::report;
 use crate::status::Status;
@@ -26,12 +28,11 @@ pub fn refactor<S: Shelf, K: Sink>(
     let Some(command) = renaming_of(words) else {
         return tell(out, report::bad_words(alloc), Status::BadWords);
     };
-    let file = command.file;
-    match shelf.read(alloc, file, MODULE_LIMIT) {
+    match shelf.read(alloc, command.file, MODULE_LIMIT) {
         Ok(bytes) => work(alloc, command, bytes.as_slice(), shelf, out),
-        Err(ReadError::Absent) => tell(out, report::read_fault(alloc, file), Status::ReadFault),
-        Err(ReadError::Failed) => tell(out, report::read_fault(alloc, file), Status::ReadFault),
-        Err(ReadError::TooLong) => tell(out, report::over_limit(alloc, file), Status::OverLimit),
+        Err(ReadError::Absent) => tell(out, report::read_fault(alloc, command), Status::ReadFault),
+        Err(ReadError::Failed) => tell(out, report::read_fault(alloc, command), Status::ReadFault),
+        Err(ReadError::TooLong) => tell(out, report::over_limit(alloc, command), Status::OverLimit),
         Err(ReadError::Memory) => Status::Memory,
     }
 }
@@ -40,7 +41,7 @@ pub fn refactor<S: Shelf, K: Sink>(
 #[derive(Debug, Drop)]
 enum Step {
     Renamed(Text),
-    NotAccepted,
+    NotAccepted(LoadError),
     Refused(Why),
     Memory,
 }
@@ -53,31 +54,41 @@ fn work<S: Shelf, K: Sink>(
     shelf: &mut S,
     out: &mut K,
 ) -> Status
-    requires { IsReady (S.ready shelf.old) command.file.now }
+    requires ready { IsReady (S.ready shelf.old) command.file.now }
+    requires read { Reads (S.told shelf.old) command.file.now bytes.now }
     ensures { (words : List (List ℕ)) (reads : ℕ) → AreGood words (shown command.entry) → Ends words (outside (S.told shelf.old) reads (S.replace_faults shelf.old) (K.written out.old) (K.faults out.old)) (outside (S.told shelf.new) (S.read_faults shelf.new) (S.replace_faults shelf.new) (K.written out.new) (K.faults out.new)) result }
 {
     match stepped(alloc, command, bytes) {
-        Step::Renamed(new) => finish(alloc, command, new, shelf, out),
-        Step::NotAccepted => tell(
+        Step::Renamed(new) => finish(alloc, command, bytes, new, shelf, out),
+        Step::NotAccepted(error) => tell(
             out,
-            report::not_accepted(alloc, command.file),
+            report::not_accepted(alloc, command, &error),
             Status::NotAccepted,
         ),
-        Step::Refused(why) => tell(out, report::refused(alloc, &why), Status::StepRefused),
+        Step::Refused(why) => tell(
+            out,
+            report::refused(alloc, command, &why),
+            Status::StepRefused,
+        ),
         Step::Memory => Status::Memory,
     }
 }
 
 /// The renaming, in memory.
-fn stepped(alloc: Global, command: Renaming<'_>, bytes: &[u8]) -> Step {
+fn stepped(alloc: Global, command: Renaming<'_>, bytes: &[u8]) -> Step
+    ensures { IsOutcome (shown command.entry) bytes.now result }
+{
     match load(alloc, bytes) {
-        Ok(tree) => renamed(alloc, command, &tree),
-        Err(LoadError::NotBuilt) => Step::NotAccepted,
-        Err(LoadError::Memory(_)) => Step::Memory,
+        Ok(tree) => renamed(alloc, command, bytes, &tree),
+        Err(error) => Step::NotAccepted(error),
     }
 }
 
-fn renamed(alloc: Global, command: Renaming<'_>, tree: &Module) -> Step {
+/// The renaming in the tree of the bytes.
+fn renamed(alloc: Global, command: Renaming<'_>, bytes: &[u8], tree: &Module) -> Step
+    requires { IsPlain bytes.now tree.now }
+    ensures { IsOutcome (shown command.entry) bytes.now result }
+{
     let Ok(module) = Text::from_slice(alloc, command.module.as_bytes()) else {
         return Step::Memory;
     };
@@ -86,7 +97,6 @@ fn renamed(alloc: Global, command: Renaming<'_>, tree: &Module) -> Step {
     };
     match rename(alloc, tree, &module, command.pos, &new) {
         Ok(text) => Step::Renamed(text),
-        Err(Why::Memory(_)) => Step::Memory,
         Err(why) => Step::Refused(why),
     }
 }
@@ -95,22 +105,24 @@ fn renamed(alloc: Global, command: Renaming<'_>, tree: &Module) -> Step {
 fn finish<S: Shelf, K: Sink>(
     alloc: Global,
     command: Renaming<'_>,
+    bytes: &[u8],
     new: Text,
     shelf: &mut S,
     out: &mut K,
 ) -> Status
-    requires { IsReady (S.ready shelf.old) command.file.now }
+    requires ready { IsReady (S.ready shelf.old) command.file.now }
+    requires read { Reads (S.told shelf.old) command.file.now bytes.now }
+    requires step { IsStep (shown command) bytes.now new }
     ensures { (words : List (List ℕ)) (reads : ℕ) → AreGood words (shown command.entry) → Ends words (outside (S.told shelf.old) reads (S.replace_faults shelf.old) (K.written out.old) (K.faults out.old)) (outside (S.told shelf.new) (S.read_faults shelf.new) (S.replace_faults shelf.new) (K.written out.new) (K.faults out.new)) result }
 {
-    let file = command.file;
-    let Ok(done) = report::done(alloc, file) else {
+    let Ok(done) = report::done(alloc, command) else {
         return Status::Memory;
     };
-    let Ok(fault) = report::write_fault(alloc, file) else {
+    let Ok(fault) = report::write_fault(alloc, command) else {
         return Status::Memory;
     };
-    let Text { bytes } = new;
-    match shelf.replace(file, bytes) {
+    let Text { bytes: text } = new;
+    match shelf.replace(command.file, text) {
         Ok(()) => tell(out, Ok(done), Status::Done),
         Err(_) => tell(out, Ok(fault), Status::WriteFault),
     }
