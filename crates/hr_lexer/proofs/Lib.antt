@@ -3,7 +3,6 @@ pub mod Bytes
 pub mod ClosedRead
 pub mod EscapesRead
 pub mod FloatsRead
-pub mod FrontRuns
 pub mod Halts
 pub mod Instances
 pub mod IntegersRead

@@ -1,5 +1,5 @@
 -- What is read where a character or a string begins.
-use Rattle.std.specs.Prelude.{ℕ, suc, List, [], ◌∷◌, Option, Some, None}
+use Rattle.std.specs.Prelude.{ℕ, suc, List, Option, Some, None}
 use Rattle.hr_base.specs.declared.lexeme.Class.{Class}
 use Rattle.hr_rules.specs.Quotes.{char_len, string_len}
 use Rattle.hr_lexer.specs.declared.taken.Taken.{Taken}
