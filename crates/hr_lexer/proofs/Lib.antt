@@ -4,7 +4,6 @@ pub mod ClosedRead
 pub mod EscapesRead
 pub mod Exactly
 pub mod FloatsRead
-pub mod FrontRuns
 pub mod Halts
 pub mod Instances
 pub mod IntegersRead
