@@ -4,3 +4,4 @@ pub mod GoOn
 pub mod Lexing
 pub mod Reading
 pub mod Stops
+pub mod Spellings

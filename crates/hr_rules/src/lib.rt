@@ -2,12 +2,16 @@
 //! items, and the text that items make.
 #![tactic(auto)]
 
+mod block;
 mod character;
 mod items;
 mod laws;
 mod position_laws;
 mod positions;
+mod role;
+mod words;
 
+pub use block::{BlockKind, OpenBlock, Opened, Placed};
 pub use character::{
     Kind, continues_name, is_blank_char, is_in_name, is_newline, is_symbol, kind_of,
 };
@@ -18,3 +22,5 @@ pub use laws::{
 };
 pub use position_laws::{behind_goes_on, positions_go_on};
 pub use positions::{Reached, has_newline};
+pub use role::{Role, role_of};
+pub use words::{is_one_of, is_spelled};
