@@ -5,3 +5,4 @@ pub mod Lexing
 pub mod Reading
 pub mod Stops
 pub mod Spellings
+pub mod Within

@@ -14,11 +14,12 @@ pub enum BlockKind {
 }
 
 /// A block that is open.
-#[derive(Clone, Copy, Debug, PartialEq, Eq)]
+#[derive(Clone, Copy, Debug, Default, PartialEq, Eq)]
 pub enum OpenBlock {
     /// One without braces, by the column of its first lexeme.
     Implicit { col: u32, kind: BlockKind },
     /// One between braces.
+    #[default]
     Explicit,
 }
 
