@@ -40,8 +40,8 @@ placed-same : (pos : Pos) (is_first : Bool) (items : List Item) → HasRoom (len
 placed-same pos is_first [] r = refl
 placed-same pos is_first (item ∷ items) r =
     ap₂ (λ (p : Pos) (l : List Placed). record { item = item; pos = p; first = line_first_after is_first item } ∷ l)
-        (shown-same _ (behind pos item.trivia) (before-lexeme pos item items r))
-        (placed-same (behind (behind pos item.trivia) item.lexeme.text) false items (behind-lexeme pos item items r))
+    (shown-same _ (behind pos item.trivia) (before-lexeme pos item items r))
+    (placed-same (behind (behind pos item.trivia) item.lexeme.text) false items (behind-lexeme pos item items r))
 
 end-same : (pos : Pos) (items : List Item) → HasRoom (length (joined items [])) pos → shown (behind_items pos items) ≡ behind_items pos items
 end-same pos [] r = shown-same _ pos r

@@ -2,7 +2,7 @@
 ghost use Rattle.std.specs.Prelude.{◌≡◌, ◌<◌, ◌^◌, [], true, None, if◌then◌else◌, IfOk, is_ok, length};
 ghost use Rattle.std.specs.Option.{option_map};
 ghost use Rattle.hr_rules.specs.Lexing.{joined};
-ghost use Rattle.hr_rules.specs.Blocks.{ends_block, ends_innermost, has_implicit, is_at_part};
+ghost use Rattle.hr_rules.specs.Blocks.{ends_block, ends_innermost, is_at_part};
 ghost use Rattle.hr_layout.specs.Standing.{beginning, begun, left, lexeme_of, next_goes_on, next_of, opened, opening, place_of, marked, next_at_margin, next_not_left, standing_shown, starts_innermost, taken};
 
 use crate::blocks::Blocks;
@@ -128,17 +128,16 @@ impl Cursor {
         ensures { result ≡ is_at_part self.now.blocks self.now.rest }
     {
         match self.blocks.innermost() {
-            None => false,
-            Some(OpenBlock::Explicit) => false,
             Some(OpenBlock::Implicit { col, .. }) => self.is_at_margin(col),
+            Some(OpenBlock::Explicit) => false,
+            None => false,
         }
     }
 
     /// Leaves the innermost block and answers true, exactly where that one is implicit and ends
-    /// here, if its last part is complete and ends so. Its condition is that an implicit block is
-    /// open.
+    /// here, if its last part is complete and ends so. An explicit brace suspends the blocks round
+    /// it, so inside one, and where no block is open, the answer is false.
     pub fn close(&mut self, ending: Ending) -> bool
-        requires open { has_implicit self.old.blocks ≡ true }
         ensures ends { result ≡ ends_innermost self.old.blocks ending self.old.rest }
         ensures leaves { self.new ≡ (if result then left self.old else self.old) }
     {
@@ -155,9 +154,9 @@ impl Cursor {
         ensures { result ≡ ends_innermost self.now.blocks ending self.now.rest }
     {
         match self.blocks.innermost() {
-            None => false,
-            Some(OpenBlock::Explicit) => false,
             Some(OpenBlock::Implicit { col, kind }) => self.ends_block(col, kind, ending),
+            Some(OpenBlock::Explicit) => false,
+            None => false,
         }
     }
 
@@ -182,12 +181,12 @@ impl Cursor {
         ensures { result ≡ starts_innermost self.now.blocks ending self.now.rest }
     {
         match self.blocks.innermost() {
-            None => false,
-            Some(OpenBlock::Explicit) => false,
             Some(OpenBlock::Implicit { col, .. }) => match ending {
                 Ending::Nothing => self.is_not_left_of(col),
                 _ => self.is_at_margin(col),
             },
+            Some(OpenBlock::Explicit) => false,
+            None => false,
         }
     }
 

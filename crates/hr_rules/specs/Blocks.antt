@@ -116,9 +116,3 @@ abbrev pub ends_innermost : List OpenBlock → Ending → List Placed → Bool
 ends_innermost [] ending rest = false
 ends_innermost (OpenBlock.Implicit col kind ∷ outer) ending rest = ends_block col kind ending rest
 ends_innermost (OpenBlock.Explicit ∷ outer) ending rest = false
-
--- some block that is open has no braces
-abbrev pub has_implicit : List OpenBlock → Bool
-has_implicit [] = false
-has_implicit (OpenBlock.Implicit col kind ∷ outer) = true
-has_implicit (OpenBlock.Explicit ∷ outer) = has_implicit outer
