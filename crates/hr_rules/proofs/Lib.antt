@@ -2,7 +2,8 @@ pub mod Apart
 pub mod Behind
 pub mod GoOn
 pub mod Lexing
+pub mod Margins
 pub mod Reading
-pub mod Stops
 pub mod Spellings
+pub mod Stops
 pub mod Within

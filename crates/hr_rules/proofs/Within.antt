@@ -1,5 +1,5 @@
 -- How far bytes lead: each of them leads a line or eight columns further at most.
-use Rattle.std.proofs.Common.{◌≡◌, ℕ, zero, suc, ◌+◌, ◌-◌, ◌*◌, ◌/◌, ◌≤◌, ◌==◌, Bool, true, false, cond, List, [], ◌∷◌, length, Option, Some, None, arith}
+use Rattle.std.proofs.Common.{ℕ, zero, suc, ◌+◌, ◌-◌, ◌*◌, ◌/◌, ◌≤◌, ◌==◌, Bool, true, false, cond, List, [], ◌∷◌, length, Option, Some, None, arith}
 use Rattle.hr_base.specs.declared.place.Pos.{Pos}
 use Rattle.hr_scan.specs.declared.character.Character.{Character}
 use Rattle.hr_scan.specs.Characters.{char_at, cell_len}

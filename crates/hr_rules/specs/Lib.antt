@@ -1,3 +1,4 @@
+pub mod BlockLaws
 pub mod Blocks
 pub mod CanFollow
 pub mod Comments

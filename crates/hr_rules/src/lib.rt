@@ -3,6 +3,7 @@
 #![tactic(auto)]
 
 mod block;
+mod block_laws;
 mod character;
 mod items;
 mod laws;
@@ -12,6 +13,7 @@ mod role;
 mod words;
 
 pub use block::{BlockKind, OpenBlock, Opened, Placed};
+pub use block_laws::{columns_from_one, items_are_placed, margins_divide};
 pub use character::{
     Kind, continues_name, is_blank_char, is_in_name, is_newline, is_symbol, kind_of,
 };

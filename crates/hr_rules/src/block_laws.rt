@@ -1,0 +1,17 @@
+ghost use Rattle.hr_rules.specs.BlockLaws.{ColumnsFromOne, ItemsArePlaced, MarginsDivide};
+
+/// The items of a text with their places are its items, at their positions: a law about the
+/// definitions, which no call needs to run.
+pub fn items_are_placed()
+    ensures { ItemsArePlaced }
+{}
+
+/// No column is 0: a law as well.
+pub fn columns_from_one()
+    ensures { ColumnsFromOne }
+{}
+
+/// A lexeme is left of a block, may start a part of it or goes on in it: one of the three.
+pub fn margins_divide()
+    ensures { MarginsDivide }
+{}
