@@ -1,10 +1,10 @@
 -- The items of a text with their places, as a walk over them counts positions.
-use Rattle.std.proofs.Common.{◌≡◌, ℕ, ◌+◌, ◌<◌, ◌≤◌, min, Bool, true, false, List, [], ◌∷◌, ◌++◌, length, map, refl, sym, ap, ap₂, ◌∙◌, arith, append-nil}
+use Rattle.std.proofs.Common.{◌≡◌, ℕ, Bool, true, false, List, [], ◌∷◌, ◌++◌, length, map, refl, sym, ap, ap₂, ◌∙◌, arith, append-nil}
 use Rattle.hr_base.specs.declared.place.Pos.{Pos}
 use Rattle.hr_base.specs.declared.lexeme.Item.{Item}
 use Rattle.hr_rules.specs.declared.positions.Reached.{Reached}
 use Rattle.hr_rules.specs.declared.block.Placed.{Placed}
-use Rattle.hr_rules.specs.Counted.{greatest, counted, pos_of}
+use Rattle.hr_rules.specs.Counted.{counted, pos_of}
 use Rattle.hr_rules.specs.Positions.{origin, behind, line_first_after}
 use Rattle.hr_rules.specs.PositionLaws.{behind_items}
 use Rattle.hr_rules.specs.Blocks.{placed_from, placed_of}
