@@ -1,5 +1,6 @@
 pub mod Apart
 pub mod Behind
+pub mod BlockEnds
 pub mod GoOn
 pub mod Lexing
 pub mod Margins
