@@ -37,7 +37,9 @@ impl Model for Cursor {
 }
 
 impl Cursor {
-    /// A cursor at the beginning of a text, whose items these are.
+    /// A cursor at the beginning of a text, whose items these are. All positions are found here, by
+    /// one walk over the text; of a line or column beyond 32 bits, which no text of fewer than 2^29
+    /// bytes has, the greatest number is kept. The only error is want of memory.
     pub fn new(alloc: Global, list: Seq<Item>) -> Result<Cursor, AllocError>
         ensures shown { IfOk result (λ cursor. cursor ≡ standing_shown (beginning list)) }
         ensures exact { length (joined list []) < 2 ^ 29 → IfOk result (λ cursor. cursor ≡ beginning list) }
@@ -105,7 +107,8 @@ impl Cursor {
     /// Opens a block behind a block keyword or at a module's body. Where it is explicit the brace is
     /// open, and the caller takes the `{`; where it is empty no block is open, and the next lexeme
     /// counts as first on its line. Alternatives open behind `of`, the module's body where no block
-    /// is open, and else declarations.
+    /// is open, and else declarations. The only error is want of memory, and it leaves the cursor as
+    /// it was.
     pub fn open(&mut self) -> Result<Opened, AllocError>
         ensures how { IfOk result (λ how. how ≡ opening self.old) }
         ensures opens { self.new ≡ (if is_ok result then opened self.old else self.old) }
