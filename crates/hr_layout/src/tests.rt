@@ -35,7 +35,10 @@ enum Step {
     Take(&'static [u8]),
     /// `peek` and `take` at the end of the items.
     End,
-    Open(Opened),
+    /// `open`, with a block that is implicit at the column, explicit or empty.
+    Implicit(u32),
+    Explicit,
+    Empty,
     AtItem(bool),
     StartsPart(Ending, bool),
     Begin,
@@ -65,7 +68,9 @@ fn is_right(cursor: &mut Cursor, step: Step) -> Result<bool, AllocError> {
     Ok(match step {
         Step::Take(words) => takes(cursor, words),
         Step::End => cursor.peek().is_none() && cursor.ahead().is_none() && cursor.take().is_none(),
-        Step::Open(opened) => cursor.open()? == opened,
+        Step::Implicit(col) => cursor.open()? == Opened::Implicit { col },
+        Step::Explicit => cursor.open()? == Opened::Explicit,
+        Step::Empty => cursor.open()? == Opened::Empty,
         Step::AtItem(answer) => cursor.at_item() == answer,
         Step::StartsPart(ending, answer) => cursor.starts_part(ending) == answer,
         Step::Begin => {
@@ -207,10 +212,6 @@ fn class_of(text: &[u8]) -> Class {
     }
 }
 
-fn implicit(col: u32) -> Step {
-    Step::Open(Opened::Implicit { col })
-}
-
 /// Every kind of lexeme, in words.
 const LEXEMES: &[u8] =
     b"x C M.x M.C 1 1.5 'c' \"s\" ( [ _ ~ - + :+ : M.+ M.:+ ` :: | -> where infix infixl infixr type data newtype import , ; { } ) ] = <- .. \\ @ => case class default deriving do else if in instance let module of then";
@@ -256,75 +257,312 @@ fn what_can_follow_stands_in_the_table(rt: HostRuntime) -> Result<(), Fail> {
     Ok(())
 }
 
-#[test]
-fn where_left_of_the_alternatives_is_the_equations(rt: HostRuntime) -> Result<(), Fail> {
-    let text = b"f x = case x of A -> 1\n                B -> 2\n  where z = 0";
-    let steps = [
-        implicit(1),
-        Step::AtItem(true),
-        Step::Begin,
-        Step::AtItem(false),
-        Step::GoesOn(true),
-        Step::Take(b"f x = case x of"),
-        Step::At(1, 17),
-        implicit(17),
-        Step::AtItem(false),
-        Step::StartsPart(NOTHING, true),
-        Step::Begin,
-        Step::Take(b"A -> 1"),
-        Step::GoesOn(false),
-        Step::AtItem(true),
-        Step::StartsPart(APPLIED, true),
-        Step::Close(APPLIED, false),
-        Step::Begin,
-        Step::GoesOn(true),
-        Step::Take(b"B -> 2"),
-        Step::At(3, 3),
-        Step::GoesOn(false),
-        Step::AtItem(false),
-        Step::StartsPart(NOTHING, false),
-        Step::Close(APPLIED, true),
-        Step::GoesOn(true),
-        Step::StartsPart(CLOSED, false),
-        Step::Close(CLOSED, false),
-        Step::Take(b"where"),
-        implicit(9),
-        Step::Begin,
-        Step::Take(b"z = 0"),
-        Step::At(3, 14),
-        Step::End,
-        Step::Close(APPLIED, true),
-        Step::Close(WHERE_BLOCK, true),
-        Step::Close(NOTHING, false),
-    ];
-    assert_eq!(rt;
-        first_wrong(rt.alloc(), words(rt.alloc(), text)?, &steps)?,
-        None
-    );
-    Ok(())
+/// A text in which blanks stand round each lexeme, and what a cursor over it answers.
+struct Case {
+    shows: &'static str,
+    text: &'static [u8],
+    steps: &'static [Step],
 }
 
+const CASES: [Case; 15] = [
+    Case {
+        shows: "where left of the alternatives is the equations",
+        text: b"f x = case x of A -> 1\n                B -> 2\n  where z = 0",
+        steps: &[
+            Step::Implicit(1),
+            Step::AtItem(true),
+            Step::Begin,
+            Step::AtItem(false),
+            Step::GoesOn(true),
+            Step::Take(b"f x = case x of"),
+            Step::At(1, 17),
+            Step::Implicit(17),
+            Step::AtItem(false),
+            Step::StartsPart(NOTHING, true),
+            Step::Begin,
+            Step::Take(b"A -> 1"),
+            Step::GoesOn(false),
+            Step::AtItem(true),
+            Step::StartsPart(APPLIED, true),
+            Step::Close(APPLIED, false),
+            Step::Begin,
+            Step::GoesOn(true),
+            Step::Take(b"B -> 2"),
+            Step::At(3, 3),
+            Step::GoesOn(false),
+            Step::AtItem(false),
+            Step::StartsPart(NOTHING, false),
+            Step::Close(APPLIED, true),
+            Step::GoesOn(true),
+            Step::StartsPart(CLOSED, false),
+            Step::Close(CLOSED, false),
+            Step::Take(b"where"),
+            Step::Implicit(9),
+            Step::Begin,
+            Step::Take(b"z = 0"),
+            Step::At(3, 14),
+            Step::End,
+            Step::Close(APPLIED, true),
+            Step::Close(WHERE_BLOCK, true),
+            Step::Close(NOTHING, false),
+        ],
+    },
+    Case {
+        shows: "where at the column of the alternatives ends them",
+        text: b"f x = case x of\n  A -> 1\n  where z = 0",
+        steps: &[
+            Step::Implicit(1),
+            Step::Begin,
+            Step::Take(b"f x = case x of"),
+            Step::Implicit(3),
+            Step::Begin,
+            Step::Take(b"A -> 1"),
+            Step::AtItem(true),
+            Step::Close(APPLIED, true),
+            Step::AtItem(false),
+            Step::Close(CLOSED, false),
+            Step::Take(b"where"),
+            Step::Implicit(9),
+        ],
+    },
+    Case {
+        shows: "one in ends two blocks",
+        text: b"a = let b = c where c = 1 in b",
+        steps: &[
+            Step::Implicit(1),
+            Step::Begin,
+            Step::Take(b"a = let"),
+            Step::Implicit(9),
+            Step::Begin,
+            Step::Take(b"b = c"),
+            Step::Close(APPLIED, false),
+            Step::Take(b"where"),
+            Step::Implicit(21),
+            Step::Begin,
+            Step::Take(b"c = 1"),
+            Step::Close(APPLIED, true),
+            Step::Close(WHERE_BLOCK, true),
+            Step::Close(APPLIED, true),
+            Step::Take(b"in b"),
+            Step::End,
+        ],
+    },
+    Case {
+        shows: "a guarded part goes on with a guard",
+        text: b"a = [ case x of y | y -> 1 | b <- c ]",
+        steps: &[
+            Step::Implicit(1),
+            Step::Begin,
+            Step::Take(b"a = [ case x of"),
+            Step::Implicit(17),
+            Step::Begin,
+            Step::Take(b"y | y -> 1"),
+            Step::Close(GUARDED, false),
+            Step::Close(CLOSED, true),
+        ],
+    },
+    Case {
+        shows: "an empty block opens at or left of the enclosing one",
+        text: b"  f = case x of\n  g = case x of\n h = case x of",
+        steps: &[
+            Step::Implicit(3),
+            Step::Begin,
+            Step::Take(b"f = case x of"),
+            Step::Empty,
+            Step::AtItem(true),
+            Step::Close(CLOSED, false),
+            Step::Begin,
+            Step::Take(b"g = case x of"),
+            Step::Empty,
+            Step::GoesOn(false),
+            Step::AtItem(false),
+            Step::Close(CLOSED, true),
+            Step::GoesOn(true),
+            Step::Take(b"h = case x of"),
+            Step::Empty,
+            Step::At(3, 15),
+            Step::End,
+        ],
+    },
+    Case {
+        shows: "a let block without declarations ends at its in",
+        text: b"a = let in x",
+        steps: &[
+            Step::Implicit(1),
+            Step::Begin,
+            Step::Take(b"a = let"),
+            Step::Implicit(9),
+            Step::Close(NOTHING, true),
+            Step::Take(b"in x"),
+            Step::End,
+            Step::Close(APPLIED, true),
+        ],
+    },
+    Case {
+        shows: "an operator at the column ends a block",
+        text: b"f = case x of\n  A -> 1\n  + 3",
+        steps: &[
+            Step::Implicit(1),
+            Step::Begin,
+            Step::Take(b"f = case x of"),
+            Step::Implicit(3),
+            Step::Begin,
+            Step::Take(b"A -> 1"),
+            Step::AtItem(true),
+            Step::Close(APPLIED, true),
+            Step::Close(CLOSED, false),
+            Step::Take(b"+ 3"),
+        ],
+    },
+    Case {
+        shows: "a minus at the column begins a part",
+        text: b"f = case x of\n  A -> 1\n  - 3",
+        steps: &[
+            Step::Implicit(1),
+            Step::Begin,
+            Step::Take(b"f = case x of"),
+            Step::Implicit(3),
+            Step::Begin,
+            Step::Take(b"A -> 1"),
+            Step::AtItem(true),
+            Step::Close(APPLIED, false),
+            Step::Begin,
+            Step::Take(b"- 3"),
+        ],
+    },
+    Case {
+        shows: "words of declarations begin parts where these stand",
+        text: b"f = case x of\n  infix\n  where\n  infixl\n  data\ntype",
+        steps: &[
+            Step::Implicit(1),
+            Step::Begin,
+            Step::Take(b"f = case x of"),
+            // alternatives
+            Step::Implicit(3),
+            Step::Close(NOTHING, true),
+            Step::Take(b"infix where"),
+            // declarations
+            Step::Implicit(3),
+            Step::Close(NOTHING, false),
+            Step::Begin,
+            Step::Take(b"infixl"),
+            Step::Close(Ending::Fixity, true),
+            Step::Take(b"data"),
+            // the module's body
+            Step::Close(WHERE_BLOCK, false),
+        ],
+    },
+    Case {
+        shows: "braces suspend the blocks round them",
+        text: b"f = let\n{ x = 1 ;\ny = 2\n} in x",
+        steps: &[
+            Step::Implicit(1),
+            Step::Begin,
+            Step::Take(b"f = let"),
+            Step::At(2, 1),
+            Step::Explicit,
+            Step::GoesOn(true),
+            Step::AtItem(false),
+            Step::Take(b"{ x = 1 ;"),
+            Step::AtItem(false),
+            Step::StartsPart(NOTHING, false),
+            Step::GoesOn(true),
+            Step::Close(NOTHING, false),
+            Step::Take(b"y = 2"),
+            Step::At(4, 1),
+            Step::GoesOn(true),
+            Step::Close(APPLIED, false),
+            Step::Take(b"}"),
+            Step::GoesOn(true),
+            Step::Close(APPLIED, true),
+        ],
+    },
+    Case {
+        shows: "a block in braces opens at any column",
+        text: b"f = let { x = case y of\nA -> 1\n} in x",
+        steps: &[
+            Step::Implicit(1),
+            Step::Begin,
+            Step::Take(b"f = let"),
+            Step::Explicit,
+            Step::Take(b"{ x = case y of"),
+            Step::Implicit(1),
+            Step::Begin,
+            Step::Take(b"A -> 1"),
+            Step::GoesOn(false),
+            Step::Close(APPLIED, true),
+            Step::GoesOn(true),
+            Step::Take(b"}"),
+            Step::Close(APPLIED, true),
+            Step::Close(APPLIED, false),
+        ],
+    },
+    Case {
+        shows: "a closing brace leaves no block that is open inside",
+        text: b"{ x = case y of\nA -> 1\n} }\nz",
+        steps: &[
+            Step::Explicit,
+            Step::Take(b"{ x = case y of"),
+            Step::Implicit(1),
+            Step::Begin,
+            Step::Take(b"A -> 1 }"),
+            Step::Close(WHERE_BLOCK, true),
+            Step::Take(b"}"),
+            Step::Close(NOTHING, false),
+            Step::Implicit(1),
+            Step::AtItem(true),
+        ],
+    },
+    Case {
+        shows: "a semicolon at the column begins an empty part",
+        text: b"f = let { x = case y of\nA -> 1\n; z = 2 } in x",
+        steps: &[
+            Step::Implicit(1),
+            Step::Begin,
+            Step::Take(b"f = let"),
+            Step::Explicit,
+            Step::Take(b"{ x = case y of"),
+            Step::Implicit(1),
+            Step::Begin,
+            Step::Take(b"A -> 1"),
+            Step::AtItem(true),
+            Step::Close(APPLIED, false),
+            Step::Take(b";"),
+            Step::StartsPart(NOTHING, true),
+            Step::StartsPart(APPLIED, false),
+            Step::Close(NOTHING, false),
+        ],
+    },
+    Case {
+        shows: "a text without lexemes ends where it begins",
+        text: b"\n",
+        steps: &[
+            Step::At(1, 1),
+            Step::Empty,
+            Step::AtItem(false),
+            Step::GoesOn(false),
+            Step::End,
+            Step::At(1, 1),
+        ],
+    },
+    Case {
+        shows: "the end is directly behind the last lexeme",
+        text: b"f =\n\n",
+        steps: &[
+            Step::Implicit(1),
+            Step::Take(b"f ="),
+            Step::At(1, 4),
+            Step::End,
+        ],
+    },
+];
+
 #[test]
-fn where_at_the_column_of_the_alternatives_ends_them(rt: HostRuntime) -> Result<(), Fail> {
-    let text = b"f x = case x of\n  A -> 1\n  where z = 0";
-    let steps = [
-        implicit(1),
-        Step::Begin,
-        Step::Take(b"f x = case x of"),
-        implicit(3),
-        Step::Begin,
-        Step::Take(b"A -> 1"),
-        Step::AtItem(true),
-        Step::Close(APPLIED, true),
-        Step::AtItem(false),
-        Step::Close(CLOSED, false),
-        Step::Take(b"where"),
-        implicit(9),
-    ];
-    assert_eq!(rt;
-        first_wrong(rt.alloc(), words(rt.alloc(), text)?, &steps)?,
-        None
-    );
+fn a_cursor_answers_as_worked_out_by_hand(rt: HostRuntime) -> Result<(), Fail> {
+    for case in &CASES {
+        let wrong = first_wrong(rt.alloc(), words(rt.alloc(), case.text)?, case.steps)?;
+        assert_eq!(rt; (case.shows, wrong), (case.shows, None));
+    }
     Ok(())
 }
 
@@ -338,10 +576,10 @@ fn ends_there(
     inside: &'static [u8],
 ) -> Result<bool, AllocError> {
     let steps = [
-        implicit(1),
+        Step::Implicit(1),
         Step::Begin,
         Step::Take(before),
-        implicit(col),
+        Step::Implicit(col),
         Step::Begin,
         Step::Take(inside),
         Step::Close(APPLIED, true),
@@ -412,83 +650,6 @@ fn blocks_end_before_what_can_not_follow(rt: HostRuntime) -> Result<(), Fail> {
     Ok(())
 }
 
-#[test]
-fn one_in_ends_two_blocks(rt: HostRuntime) -> Result<(), Fail> {
-    let text = b"a = let b = c where c = 1 in b";
-    let steps = [
-        implicit(1),
-        Step::Begin,
-        Step::Take(b"a = let"),
-        implicit(9),
-        Step::Begin,
-        Step::Take(b"b = c"),
-        Step::Close(APPLIED, false),
-        Step::Take(b"where"),
-        implicit(21),
-        Step::Begin,
-        Step::Take(b"c = 1"),
-        Step::Close(APPLIED, true),
-        Step::Close(WHERE_BLOCK, true),
-        Step::Close(APPLIED, true),
-        Step::Take(b"in b"),
-        Step::End,
-    ];
-    assert_eq!(rt;
-        first_wrong(rt.alloc(), words(rt.alloc(), text)?, &steps)?,
-        None
-    );
-    Ok(())
-}
-
-#[test]
-fn a_guarded_part_goes_on_with_a_guard(rt: HostRuntime) -> Result<(), Fail> {
-    let text = b"a = [ case x of y | y -> 1 | b <- c ]";
-    let steps = [
-        implicit(1),
-        Step::Begin,
-        Step::Take(b"a = [ case x of"),
-        implicit(17),
-        Step::Begin,
-        Step::Take(b"y | y -> 1"),
-        Step::Close(GUARDED, false),
-        Step::Close(CLOSED, true),
-    ];
-    assert_eq!(rt;
-        first_wrong(rt.alloc(), words(rt.alloc(), text)?, &steps)?,
-        None
-    );
-    Ok(())
-}
-
-#[test]
-fn an_empty_block_opens_at_or_left_of_the_enclosing_one(rt: HostRuntime) -> Result<(), Fail> {
-    let text = b"  f = case x of\n  g = case x of\n h = case x of";
-    let steps = [
-        implicit(3),
-        Step::Begin,
-        Step::Take(b"f = case x of"),
-        Step::Open(Opened::Empty),
-        Step::AtItem(true),
-        Step::Close(CLOSED, false),
-        Step::Begin,
-        Step::Take(b"g = case x of"),
-        Step::Open(Opened::Empty),
-        Step::GoesOn(false),
-        Step::AtItem(false),
-        Step::Close(CLOSED, true),
-        Step::GoesOn(true),
-        Step::Take(b"h = case x of"),
-        Step::Open(Opened::Empty),
-        Step::At(3, 15),
-        Step::End,
-    ];
-    assert_eq!(rt;
-        first_wrong(rt.alloc(), words(rt.alloc(), text)?, &steps)?,
-        None
-    );
-    Ok(())
-}
-
 // The string ends on the second line, so that `g` is not the first on its line by itself.
 #[test]
 fn what_follows_an_empty_block_counts_as_first_on_its_line(rt: HostRuntime) -> Result<(), Fail> {
@@ -506,7 +667,7 @@ fn what_follows_an_empty_block_counts_as_first_on_its_line(rt: HostRuntime) -> R
         ],
     )?;
     let steps = [
-        implicit(20),
+        Step::Implicit(20),
         Step::Begin,
         Step::Take(b"a = \"\\\n\\\""),
         Step::At(2, 4),
@@ -515,200 +676,12 @@ fn what_follows_an_empty_block_counts_as_first_on_its_line(rt: HostRuntime) -> R
         Step::At(2, 16),
         Step::GoesOn(true),
         Step::Close(APPLIED, false),
-        Step::Open(Opened::Empty),
+        Step::Empty,
         Step::GoesOn(false),
         Step::AtItem(false),
         Step::Close(APPLIED, true),
     ];
     assert_eq!(rt; first_wrong(rt.alloc(), items, &steps)?, None);
-    Ok(())
-}
-
-#[test]
-fn a_let_block_without_declarations_ends_at_its_in(rt: HostRuntime) -> Result<(), Fail> {
-    let steps = [
-        implicit(1),
-        Step::Begin,
-        Step::Take(b"a = let"),
-        implicit(9),
-        Step::Close(NOTHING, true),
-        Step::Take(b"in x"),
-        Step::End,
-        Step::Close(APPLIED, true),
-    ];
-    assert_eq!(rt;
-        first_wrong(rt.alloc(), words(rt.alloc(), b"a = let in x")?, &steps)?,
-        None
-    );
-    Ok(())
-}
-
-#[test]
-fn an_operator_at_the_column_ends_a_block_and_a_minus_begins_a_part(
-    rt: HostRuntime,
-) -> Result<(), Fail> {
-    let ended = [
-        implicit(1),
-        Step::Begin,
-        Step::Take(b"f = case x of"),
-        implicit(3),
-        Step::Begin,
-        Step::Take(b"A -> 1"),
-        Step::AtItem(true),
-        Step::Close(APPLIED, true),
-        Step::Close(CLOSED, false),
-        Step::Take(b"+ 3"),
-    ];
-    let plus = words(rt.alloc(), b"f = case x of\n  A -> 1\n  + 3")?;
-    assert_eq!(rt; first_wrong(rt.alloc(), plus, &ended)?, None);
-    let begun = [
-        implicit(1),
-        Step::Begin,
-        Step::Take(b"f = case x of"),
-        implicit(3),
-        Step::Begin,
-        Step::Take(b"A -> 1"),
-        Step::AtItem(true),
-        Step::Close(APPLIED, false),
-        Step::Begin,
-        Step::Take(b"- 3"),
-    ];
-    let minus = words(rt.alloc(), b"f = case x of\n  A -> 1\n  - 3")?;
-    assert_eq!(rt; first_wrong(rt.alloc(), minus, &begun)?, None);
-    Ok(())
-}
-
-#[test]
-fn words_of_declarations_begin_parts_where_these_stand(rt: HostRuntime) -> Result<(), Fail> {
-    let text = b"f = case x of\n  infix\n  where\n  infixl\n  data\ntype";
-    let steps = [
-        implicit(1),
-        Step::Begin,
-        Step::Take(b"f = case x of"),
-        // alternatives
-        implicit(3),
-        Step::Close(NOTHING, true),
-        Step::Take(b"infix where"),
-        // declarations
-        implicit(3),
-        Step::Close(NOTHING, false),
-        Step::Begin,
-        Step::Take(b"infixl"),
-        Step::Close(Ending::Fixity, true),
-        Step::Take(b"data"),
-        // the module's body
-        Step::Close(WHERE_BLOCK, false),
-    ];
-    assert_eq!(rt;
-        first_wrong(rt.alloc(), words(rt.alloc(), text)?, &steps)?,
-        None
-    );
-    Ok(())
-}
-
-#[test]
-fn braces_suspend_the_blocks_round_them(rt: HostRuntime) -> Result<(), Fail> {
-    let text = b"f = let\n{ x = 1 ;\ny = 2\n} in x";
-    let steps = [
-        implicit(1),
-        Step::Begin,
-        Step::Take(b"f = let"),
-        Step::At(2, 1),
-        Step::Open(Opened::Explicit),
-        Step::GoesOn(true),
-        Step::AtItem(false),
-        Step::Take(b"{ x = 1 ;"),
-        Step::AtItem(false),
-        Step::StartsPart(NOTHING, false),
-        Step::GoesOn(true),
-        Step::Close(NOTHING, false),
-        Step::Take(b"y = 2"),
-        Step::At(4, 1),
-        Step::GoesOn(true),
-        Step::Close(APPLIED, false),
-        Step::Take(b"}"),
-        Step::GoesOn(true),
-        Step::Close(APPLIED, true),
-    ];
-    assert_eq!(rt;
-        first_wrong(rt.alloc(), words(rt.alloc(), text)?, &steps)?,
-        None
-    );
-    Ok(())
-}
-
-#[test]
-fn a_block_in_braces_opens_at_any_column(rt: HostRuntime) -> Result<(), Fail> {
-    let text = b"f = let { x = case y of\nA -> 1\n} in x";
-    let steps = [
-        implicit(1),
-        Step::Begin,
-        Step::Take(b"f = let"),
-        Step::Open(Opened::Explicit),
-        Step::Take(b"{ x = case y of"),
-        implicit(1),
-        Step::Begin,
-        Step::Take(b"A -> 1"),
-        Step::GoesOn(false),
-        Step::Close(APPLIED, true),
-        Step::GoesOn(true),
-        Step::Take(b"}"),
-        Step::Close(APPLIED, true),
-        Step::Close(APPLIED, false),
-    ];
-    assert_eq!(rt;
-        first_wrong(rt.alloc(), words(rt.alloc(), text)?, &steps)?,
-        None
-    );
-    Ok(())
-}
-
-// The brace is not left as long as the block inside it is open.
-#[test]
-fn a_closing_brace_leaves_no_block_that_is_open_inside(rt: HostRuntime) -> Result<(), Fail> {
-    let text = b"{ x = case y of\nA -> 1\n} }\nz";
-    let steps = [
-        Step::Open(Opened::Explicit),
-        Step::Take(b"{ x = case y of"),
-        implicit(1),
-        Step::Begin,
-        Step::Take(b"A -> 1 }"),
-        Step::Close(WHERE_BLOCK, true),
-        Step::Take(b"}"),
-        Step::Close(NOTHING, false),
-        implicit(1),
-        Step::AtItem(true),
-    ];
-    assert_eq!(rt;
-        first_wrong(rt.alloc(), words(rt.alloc(), text)?, &steps)?,
-        None
-    );
-    Ok(())
-}
-
-#[test]
-fn a_semicolon_at_the_column_begins_an_empty_part(rt: HostRuntime) -> Result<(), Fail> {
-    let text = b"f = let { x = case y of\nA -> 1\n; z = 2 } in x";
-    let steps = [
-        implicit(1),
-        Step::Begin,
-        Step::Take(b"f = let"),
-        Step::Open(Opened::Explicit),
-        Step::Take(b"{ x = case y of"),
-        implicit(1),
-        Step::Begin,
-        Step::Take(b"A -> 1"),
-        Step::AtItem(true),
-        Step::Close(APPLIED, false),
-        Step::Take(b";"),
-        Step::StartsPart(NOTHING, true),
-        Step::StartsPart(APPLIED, false),
-        Step::Close(NOTHING, false),
-    ];
-    assert_eq!(rt;
-        first_wrong(rt.alloc(), words(rt.alloc(), text)?, &steps)?,
-        None
-    );
     Ok(())
 }
 
@@ -728,7 +701,7 @@ fn blanks_and_comments_before_a_lexeme_give_its_column(rt: HostRuntime) -> Resul
     )?;
     let steps = [
         Step::At(1, 1),
-        implicit(1),
+        Step::Implicit(1),
         Step::AtItem(true),
         Step::Take(b"f"),
         Step::At(2, 9),
@@ -738,7 +711,7 @@ fn blanks_and_comments_before_a_lexeme_give_its_column(rt: HostRuntime) -> Resul
         Step::At(2, 17),
         Step::Take(b"="),
         Step::At(4, 10),
-        implicit(10),
+        Step::Implicit(10),
         Step::AtItem(true),
         Step::Take(b"y"),
         Step::At(5, 3),
@@ -746,7 +719,7 @@ fn blanks_and_comments_before_a_lexeme_give_its_column(rt: HostRuntime) -> Resul
         Step::Close(APPLIED, true),
         Step::Take(b"z"),
         Step::At(6, 9),
-        implicit(9),
+        Step::Implicit(9),
         Step::AtItem(true),
         Step::Take(b"g"),
         Step::At(6, 19),
@@ -773,7 +746,7 @@ fn a_string_gap_that_ends_before_a_lexeme_takes_its_place(rt: HostRuntime) -> Re
         ],
     )?;
     let steps = [
-        implicit(4),
+        Step::Implicit(4),
         Step::Begin,
         Step::Take(b"f = g \"\\\n\\\""),
         Step::At(2, 4),
@@ -783,28 +756,6 @@ fn a_string_gap_that_ends_before_a_lexeme_takes_its_place(rt: HostRuntime) -> Re
         Step::Close(APPLIED, true),
     ];
     assert_eq!(rt; first_wrong(rt.alloc(), items, &steps)?, None);
-    Ok(())
-}
-
-#[test]
-fn the_end_is_directly_behind_the_last_lexeme(rt: HostRuntime) -> Result<(), Fail> {
-    let none = [
-        Step::At(1, 1),
-        Step::Open(Opened::Empty),
-        Step::AtItem(false),
-        Step::GoesOn(false),
-        Step::End,
-        Step::At(1, 1),
-    ];
-    assert_eq!(rt;
-        first_wrong(rt.alloc(), words(rt.alloc(), b"\n")?, &none)?,
-        None
-    );
-    let one = [implicit(1), Step::Take(b"f ="), Step::At(1, 4), Step::End];
-    assert_eq!(rt;
-        first_wrong(rt.alloc(), words(rt.alloc(), b"f =\n\n")?, &one)?,
-        None
-    );
     Ok(())
 }
 
