@@ -42,6 +42,7 @@ enum Step {
     AtItem(bool),
     StartsPart(Ending, bool),
     Begin,
+    Leave,
     GoesOn(bool),
     /// `ends` and then `close`.
     Close(Ending, bool),
@@ -75,6 +76,10 @@ fn is_right(cursor: &mut Cursor, step: Step) -> Result<bool, AllocError> {
         Step::StartsPart(ending, answer) => cursor.starts_part(ending) == answer,
         Step::Begin => {
             cursor.begin();
+            true
+        }
+        Step::Leave => {
+            cursor.leave();
             true
         }
         Step::GoesOn(answer) => cursor.goes_on() == answer && cursor.ahead().is_some() == answer,
@@ -264,7 +269,25 @@ struct Case {
     steps: &'static [Step],
 }
 
-const CASES: [Case; 15] = [
+const CASES: [Case; 16] = [
+    Case {
+        shows: "a block that is left takes no part in what is next",
+        text: b"f = let\n  b",
+        steps: &[
+            Step::Implicit(1),
+            Step::Begin,
+            Step::Take(b"f = let"),
+            Step::Implicit(3),
+            Step::AtItem(true),
+            Step::GoesOn(false),
+            Step::Leave,
+            Step::AtItem(false),
+            Step::GoesOn(true),
+            Step::Leave,
+            Step::Close(APPLIED, false),
+            Step::GoesOn(true),
+        ],
+    },
     Case {
         shows: "where left of the alternatives is the equations",
         text: b"f x = case x of A -> 1\n                B -> 2\n  where z = 0",
