@@ -9,7 +9,6 @@ use Rattle.hr_rules.specs.Blocks.{role, left_of, at_margin, goes_on, ends_block}
 use Rattle.hr_rules.specs.BlockLaws.{EndsStop, PartsDoNotEnd, SemicolonsDoNotEnd}
 use Rattle.hr_rules.proofs.Margins.{margins}
 
-
 -- a lexeme that is neither left of the column nor at it, and can't follow
 stuck : (left at goes semicolon follow begins : Bool) → goes ≡ not (left || at) → (left || cond at (not begins) (not (semicolon || follow))) ≡ true → not (goes && follow) ≡ true
 stuck true at goes semicolon follow begins g e = ap (λ t. not (t && follow)) g
