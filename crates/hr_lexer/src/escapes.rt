@@ -9,9 +9,9 @@ use crate::numbers::{digits_len, value_capped};
 use crate::tables::control_name_len;
 use hr_rules::is_blank_char;
 
-const LETTERS: [char; 10] = ['a', 'b', 'f', 'n', 'r', 't', 'v', '\\', '"', '\''];
+static LETTERS: [char; 10] = ['a', 'b', 'f', 'n', 'r', 't', 'v', '\\', '"', '\''];
 
-const CONTROL_MARKS: [char; 6] = ['@', '[', '\\', ']', '^', '_'];
+static CONTROL_MARKS: [char; 6] = ['@', '[', '\\', ']', '^', '_'];
 
 /// The length of the longest escape that the text begins with.
 #[tactic(auto, unfolding(hr_rules::specs::Quotes::escape_len))]

@@ -104,7 +104,8 @@ fn read_items(alloc: Global, len: usize, source: Source) -> Result<Items, LexErr
     ensures read { IfOk result (λ items. Lexes class_of is_piece bars source.entry.bytes.now items.list items.tail) }
     ensures refused { IfErr result (λ error. IsHalt len source.entry.bytes.now error) }
 {
-    let mut list = Vec::new(alloc);
+    // Haskell has some four bytes a lexeme, and seldom fewer.
+    let mut list = Vec::with_capacity(alloc, len / 4).map_err(LexError::Memory)?;
     let mut left = source;
     loop {
         let (trivia, rest) = split(left, trivia_len(left.characters));

@@ -5,7 +5,7 @@ ghost use Rattle.hr_rules.specs.Operators.{is_reserved_operator};
 ghost use Rattle.hr_rules.specs.Quotes.{ascii_names, named_len};
 ghost use Rattle.hr_rules.specs.Runs.{begins_word};
 
-const RESERVED_WORDS: [&[u8]; 22] = [
+static RESERVED_WORDS: [&[u8]; 22] = [
     b"case",
     b"class",
     b"data",
@@ -30,12 +30,12 @@ const RESERVED_WORDS: [&[u8]; 22] = [
     b"_",
 ];
 
-const RESERVED_OPERATORS: [&[u8]; 11] = [
+static RESERVED_OPERATORS: [&[u8]; 11] = [
     b"..", b":", b"::", b"=", b"\\", b"|", b"<-", b"->", b"@", b"~", b"=>",
 ];
 
 /// The names of ASCII's controls, of which the longer stand before the shorter.
-const CONTROL_NAMES: [&[u8]; 34] = [
+static CONTROL_NAMES: [&[u8]; 34] = [
     b"NUL", b"SOH", b"STX", b"ETX", b"EOT", b"ENQ", b"ACK", b"BEL", b"DLE", b"DC1", b"DC2", b"DC3",
     b"DC4", b"NAK", b"SYN", b"ETB", b"CAN", b"SUB", b"ESC", b"DEL", b"BS", b"HT", b"LF", b"VT",
     b"FF", b"CR", b"SO", b"SI", b"EM", b"FS", b"GS", b"RS", b"US", b"SP",

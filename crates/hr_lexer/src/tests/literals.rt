@@ -3,174 +3,6 @@ use std::alloc::{AllocError, Global};
 use std::process::Abort;
 use std::test::Fail;
 
-/// Escapes, behind their backslash, that characters and strings have.
-const ESCAPES: [&str; 104] = [
-    "a",
-    "b",
-    "f",
-    "n",
-    "r",
-    "t",
-    "v",
-    "\\",
-    "\"",
-    "'",
-    // the names of ASCII's controls
-    "NUL",
-    "SOH",
-    "STX",
-    "ETX",
-    "EOT",
-    "ENQ",
-    "ACK",
-    "BEL",
-    "BS",
-    "HT",
-    "LF",
-    "VT",
-    "FF",
-    "CR",
-    "SO",
-    "SI",
-    "DLE",
-    "DC1",
-    "DC2",
-    "DC3",
-    "DC4",
-    "NAK",
-    "SYN",
-    "ETB",
-    "CAN",
-    "EM",
-    "SUB",
-    "ESC",
-    "FS",
-    "GS",
-    "RS",
-    "US",
-    "SP",
-    "DEL",
-    // controls by their letters
-    "^@",
-    "^A",
-    "^B",
-    "^C",
-    "^D",
-    "^E",
-    "^F",
-    "^G",
-    "^H",
-    "^I",
-    "^J",
-    "^K",
-    "^L",
-    "^M",
-    "^N",
-    "^O",
-    "^P",
-    "^Q",
-    "^R",
-    "^S",
-    "^T",
-    "^U",
-    "^V",
-    "^W",
-    "^X",
-    "^Y",
-    "^Z",
-    "^[",
-    "^\\",
-    "^]",
-    "^^",
-    "^_",
-    // codes: the least, the greatest, and those beside the surrogates
-    "0",
-    "00",
-    "65",
-    "55295",
-    "57344",
-    "1114111",
-    "0001114111",
-    "00000000000000000000000000065",
-    "o0",
-    "o17",
-    "o153777",
-    "o160000",
-    "o4177777",
-    "o0004177777",
-    "x0",
-    "x41",
-    "xfF",
-    "xD7FF",
-    "xd7ff",
-    "xE000",
-    "x10FFFF",
-    "x10ffff",
-    "x0010FFFF",
-    "9",
-    "o7",
-    "xF",
-    "xa",
-    "127",
-];
-
-/// What no escape begins with, or what is no code of a character.
-const NO_ESCAPES: [&str; 49] = [
-    // not among the letters, names and marks
-    "c",
-    "d",
-    "e",
-    "g",
-    "h",
-    "q",
-    "s",
-    "u",
-    "z",
-    "A",
-    "D",
-    "S",
-    "N",
-    "NU",
-    "Nul",
-    "ET",
-    "DC5",
-    "DC",
-    "E",
-    "X41",
-    "O17",
-    "^a",
-    "^1",
-    "^",
-    "^?",
-    "^`",
-    "^ ",
-    "(",
-    "-",
-    "_",
-    "u0041",
-    // digits of another base, or none
-    "o",
-    "x",
-    "o8",
-    "xg",
-    "x-1",
-    "+1",
-    // surrogates
-    "55296",
-    "57343",
-    "o154000",
-    "o157777",
-    "xD800",
-    "xDFFF",
-    // above the last code; 2^64 + 65 is not 65
-    "1114112",
-    "o4200000",
-    "x110000",
-    "18446744073709551681",
-    "x10000000000000041",
-    "99999999999999999999999999",
-];
-
 fn check_escape(rt: &impl Abort, alloc: Global, escape: &str) -> Result<(), AllocError> {
     let character = format!(in alloc; "'\\{escape}'")?;
     let string = format!(in alloc; "\"a\\{escape}\"")?;
@@ -188,14 +20,131 @@ fn check_no_escape(rt: &impl Abort, alloc: Global, escape: &str) -> Result<(), A
     Ok(())
 }
 
+/// Each is an escape, behind its backslash, of characters and of strings.
+fn check_escapes(rt: &impl Abort, alloc: Global, escapes: &[&str]) -> Result<(), AllocError> {
+    for escape in escapes {
+        check_escape(rt, alloc, escape)?;
+    }
+    Ok(())
+}
+
+/// Neither characters nor strings have one of the escapes.
+fn check_no_escapes(rt: &impl Abort, alloc: Global, escapes: &[&str]) -> Result<(), AllocError> {
+    for escape in escapes {
+        check_no_escape(rt, alloc, escape)?;
+    }
+    Ok(())
+}
+
 #[test]
-fn each_escape_is_read(rt: HostRuntime) -> Result<(), Fail> {
-    for escape in ESCAPES {
-        check_escape(&rt, rt.alloc(), escape)?;
-    }
-    for escape in NO_ESCAPES {
-        check_no_escape(&rt, rt.alloc(), escape)?;
-    }
+fn letters_and_names_are_escapes(rt: HostRuntime) -> Result<(), Fail> {
+    check_escapes(
+        &rt,
+        rt.alloc(),
+        &["a", "b", "f", "n", "r", "t", "v", "\\", "\"", "'"],
+    )?;
+    check_escapes(
+        &rt,
+        rt.alloc(),
+        &[
+            "NUL", "SOH", "STX", "ETX", "EOT", "ENQ", "ACK", "BEL", "BS", "HT", "LF", "VT", "FF",
+            "CR", "SO", "SI", "DLE", "DC1", "DC2", "DC3", "DC4", "NAK", "SYN", "ETB", "CAN", "EM",
+            "SUB", "ESC", "FS", "GS", "RS", "US", "SP", "DEL",
+        ],
+    )?;
+    check_no_escapes(
+        &rt,
+        rt.alloc(),
+        &[
+            "c", "d", "e", "g", "h", "q", "s", "u", "z", "A", "D", "S", "N", "NU", "Nul", "ET",
+            "DC5", "DC", "E", "(", "-", "_", "u0041",
+        ],
+    )?;
+    Ok(())
+}
+
+#[test]
+fn controls_are_escapes(rt: HostRuntime) -> Result<(), Fail> {
+    check_escapes(
+        &rt,
+        rt.alloc(),
+        &[
+            "^@", "^A", "^B", "^C", "^D", "^E", "^F", "^G", "^H", "^I", "^J", "^K", "^L", "^M",
+            "^N", "^O", "^P", "^Q", "^R", "^S", "^T", "^U", "^V", "^W", "^X", "^Y", "^Z", "^[",
+            "^\\", "^]", "^^", "^_",
+        ],
+    )?;
+    check_no_escapes(&rt, rt.alloc(), &["^a", "^z", "^1", "^", "^?", "^`", "^ "])?;
+    Ok(())
+}
+
+#[test]
+fn codes_of_characters_are_escapes(rt: HostRuntime) -> Result<(), Fail> {
+    check_escapes(
+        &rt,
+        rt.alloc(),
+        &[
+            "0",
+            "00",
+            "9",
+            "65",
+            "127",
+            "00000000000000000000000000065",
+            "o0",
+            "o7",
+            "o17",
+            "x0",
+            "xa",
+            "xF",
+            "xfF",
+            "x41",
+            // the last code
+            "1114111",
+            "0001114111",
+            "o4177777",
+            "o0004177777",
+            "x10FFFF",
+            "x10ffff",
+            "x0010FFFF",
+            // beside the surrogates
+            "55295",
+            "57344",
+            "o153777",
+            "o160000",
+            "xD7FF",
+            "xd7ff",
+            "xE000",
+        ],
+    )?;
+    check_no_escapes(
+        &rt,
+        rt.alloc(),
+        &[
+            // digits of another base, or none
+            "o",
+            "x",
+            "o8",
+            "xg",
+            "x-1",
+            "+1",
+            "X41",
+            "O17",
+            // surrogates
+            "55296",
+            "57343",
+            "o154000",
+            "o157777",
+            "xD800",
+            "xDFFF",
+            // above the last code; 2^64 + 65 is not 65
+            "1114112",
+            "o4200000",
+            "x110000",
+            "18446744073709551681",
+            "x10000000000000041",
+            "99999999999999999999999999",
+        ],
+    )?;
     Ok(())
 }
 

@@ -3,15 +3,6 @@ use std::alloc::{AllocError, Global};
 use std::process::Abort;
 use std::test::Fail;
 
-const RESERVED_WORDS: [&str; 22] = [
-    "case", "class", "data", "default", "deriving", "do", "else", "if", "import", "in", "infix",
-    "infixl", "infixr", "instance", "let", "module", "newtype", "of", "then", "type", "where", "_",
-];
-
-const RESERVED_OPERATORS: [&str; 11] = [
-    "..", ":", "::", "=", "\\", "|", "<-", "->", "@", "~", "=>",
-];
-
 #[test]
 fn names_and_operators_are_whole_runs(rt: HostRuntime) -> Result<(), Fail> {
     check_whole(
@@ -146,14 +137,36 @@ fn check_operator(rt: &impl Abort, alloc: Global, operator: &str) -> Result<(), 
     Ok(())
 }
 
+fn check_words(rt: &impl Abort, alloc: Global, words: &[&str]) -> Result<(), AllocError> {
+    for word in words {
+        check_word(rt, alloc, word)?;
+    }
+    Ok(())
+}
+
+fn check_operators(rt: &impl Abort, alloc: Global, operators: &[&str]) -> Result<(), AllocError> {
+    for operator in operators {
+        check_operator(rt, alloc, operator)?;
+    }
+    Ok(())
+}
+
 #[test]
 fn reserved_are_whole_words_and_operators(rt: HostRuntime) -> Result<(), Fail> {
-    for word in RESERVED_WORDS {
-        check_word(&rt, rt.alloc(), word)?;
-    }
-    for operator in RESERVED_OPERATORS {
-        check_operator(&rt, rt.alloc(), operator)?;
-    }
+    check_words(
+        &rt,
+        rt.alloc(),
+        &[
+            "case", "class", "data", "default", "deriving", "do", "else", "if", "import", "in",
+            "infix", "infixl", "infixr", "instance", "let", "module", "newtype", "of", "then",
+            "type", "where", "_",
+        ],
+    )?;
+    check_operators(
+        &rt,
+        rt.alloc(),
+        &["..", ":", "::", "=", "\\", "|", "<-", "->", "@", "~", "=>"],
+    )?;
     Ok(())
 }
 
