@@ -220,10 +220,12 @@ fn two_hundred_modules_with_five_thousand_imports_are_ordered(rt: HostRuntime) -
     for number in 0..200 {
         names.push(two_letters(alloc, number)?)?;
     }
-    // Each imports the 25 behind it, as far as there are any; else the last one.
+    // Each imports the 25 behind it, each of the first 25 one more, as far as there are any; else
+    // the last one.
     let mut imports = Vec::new(alloc);
     for from in 0..199usize {
-        for step in 1..26 {
+        let behind = if from < 25 { 26 } else { 25 };
+        for step in 1..=behind {
             imports.push(ImportEdge {
                 from,
                 to: two_letters(alloc, (from + step).min(199))?,
@@ -234,6 +236,7 @@ fn two_hundred_modules_with_five_thousand_imports_are_ordered(rt: HostRuntime) -
             })?;
         }
     }
+    assert_eq!(rt; imports.len(), 5000);
     assert!(rt; begins_within(names.len(), &imports));
     match order(alloc, &names, &imports) {
         Ok(list) => {
