@@ -220,10 +220,12 @@ fn two_hundred_modules_with_five_thousand_imports_are_ordered(rt: HostRuntime) -
     for number in 0..200 {
         names.push(two_letters(alloc, number)?)?;
     }
-    // Each imports the 25 behind it, as far as there are any; else the last one.
+    // Each imports the 25 behind it, each of the first 25 one more, as far as there are any; else
+    // the last one.
     let mut imports = Vec::new(alloc);
     for from in 0..199usize {
-        for step in 1..26 {
+        let behind = if from < 25 { 26 } else { 25 };
+        for step in 1..=behind {
             imports.push(ImportEdge {
                 from,
                 to: two_letters(alloc, (from + step).min(199))?,
@@ -234,6 +236,7 @@ fn two_hundred_modules_with_five_thousand_imports_are_ordered(rt: HostRuntime) -
             })?;
         }
     }
+    assert_eq!(rt; imports.len(), 5000);
     assert!(rt; begins_within(names.len(), &imports));
     match order(alloc, &names, &imports) {
         Ok(list) => {
@@ -247,31 +250,45 @@ fn two_hundred_modules_with_five_thousand_imports_are_ordered(rt: HostRuntime) -
     Ok(())
 }
 
-/// For each node but the last one four edges to the next.
-fn chain(alloc: Global, nodes: usize) -> Result<Vec<(usize, usize)>, AllocError> {
+/// For each node but the last one four edges to the next, and four of one edge more.
+fn chain_with(
+    alloc: Global,
+    nodes: usize,
+    more: (usize, usize),
+) -> Result<Vec<(usize, usize)>, AllocError> {
     let mut edges = Vec::new(alloc);
     for node in 1..nodes {
         for _ in 0..4 {
             edges.push((node - 1, node))?;
         }
     }
+    for _ in 0..4 {
+        edges.push(more)?;
+    }
     Ok(edges)
 }
 
 #[test]
-fn a_long_chain_has_single_components_and_a_long_cycle_has_one(
-    rt: HostRuntime,
-) -> Result<(), Fail> {
+fn a_chain_of_twenty_thousand_nodes_has_single_components(rt: HostRuntime) -> Result<(), Fail> {
     let alloc = rt.alloc();
     let nodes = 20_000;
-    let mut edges = chain(alloc, nodes)?;
+    let edges = chain_with(alloc, nodes, (0, 1))?;
+    assert_eq!(rt; edges.len(), 80_000);
     assert!(rt; ends_within(nodes, &edges));
     let single = components(alloc, nodes, &edges)?;
     assert_eq!(rt; single.len(), nodes);
     for (place, group) in single.as_slice().iter().enumerate() {
         assert!(rt; place < nodes && group.as_slice() == [nodes - 1 - place].as_slice());
     }
-    edges.push((nodes - 1, 0))?;
+    Ok(())
+}
+
+#[test]
+fn a_cycle_of_twenty_thousand_nodes_is_one_component(rt: HostRuntime) -> Result<(), Fail> {
+    let alloc = rt.alloc();
+    let nodes = 20_000;
+    let edges = chain_with(alloc, nodes, (nodes - 1, 0))?;
+    assert_eq!(rt; edges.len(), 80_000);
     assert!(rt; ends_within(nodes, &edges));
     let whole = components(alloc, nodes, &edges)?;
     assert_eq!(rt; whole.len(), 1);

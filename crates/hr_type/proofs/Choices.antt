@@ -1,9 +1,8 @@
 -- Choices for variables, narrowed down one after another.
-use Rattle.std.proofs.Common.{◌≡◌, ◌≢◌, ◌⊎◌, ◌↔◌, ℕ, ◌+◌, ◌<◌, length, take, get_or, Bool, true, false, cond, eqb, IsTrue, List, [], ◌∷◌, ◌++◌, map, Option, Some, None, Result, Ok, Err, IfOk, refl, sym, subst, ap, ◌∙◌, inl, inr, lt-ltb}
+use Rattle.std.proofs.Common.{◌≡◌, ◌≢◌, ◌⊎◌, ◌↔◌, ℕ, ◌+◌, ◌<◌, length, take, get_or, Bool, true, false, cond, eqb, IsTrue, List, [], ◌∷◌, ◌++◌, map, Some, None, Result, Ok, Err, IfOk, refl, sym, subst, ap, ◌∙◌, inl, inr, lt-ltb}
 use Rattle.std.proofs.lemmas.List.{take-map, take_more, get_or-map, get_or_read, map-append, same_from_push}
 use Rattle.std.proofs.lemmas.Bool.{eq-eqb, false≢true}
 use Rattle.std.proofs.lemmas.Bool.Decides.{eqb_tells}
-use Rattle.std.specs.List.{AllByRecursion}
 use Rattle.hr_type.specs.declared.mono.Mono.{Mono}
 use Rattle.hr_base.specs.declared.bind.Entity.{Entity}
 use Rattle.hr_type.specs.declared.mono.Mono.TheVariants.{Var, Con, Fun}

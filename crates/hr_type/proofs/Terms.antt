@@ -1,13 +1,13 @@
 -- Induction over types, the equations of `value`, and that the three kinds of type differ.
-use Rattle.std.proofs.Common.{◌≡◌, ℕ, List, [], ◌∷◌, ◌++◌, map, refl, sym, ap, ◌∙◌, subst, Bool, true, false}
-use Rattle.std.specs.List.{concat, AllByRecursion as Each}
+use Rattle.std.proofs.Common.{◌≡◌, ℕ, List, [], ◌∷◌, map, sym, ap, ◌∙◌, subst}
+use Rattle.std.specs.List.{AllByRecursion as Each}
 use Rattle.hr_base.specs.declared.bind.Entity.{Entity}
 use Rattle.hr_type.specs.declared.mono.Mono.{Mono}
 use Rattle.hr_type.specs.declared.mono.Mono.TheVariants.{Var, Con, Fun, rolls-Var, rolls-Con, rolls-Fun, outs-Var, outs-Con, outs-Fun}
 use Rattle.hr_type.specs.declared.mono.Mono.TheOpen.{Mono-F}
 use Rattle.hr_type.specs.declared.mono.Mono.TheViews.{out-Mono, roll-Mono}
 use Rattle.hr_type.specs.declared.mono.Mono.TheFolds.{fold-Mono, fold-roll-Mono, ind-Mono}
-use Rattle.hr_type.specs.Types.{layer, value, replaced, variables}
+use Rattle.hr_type.specs.Types.{layer, value}
 
 module _ (A : Type 0) (applied : Entity → List A → A) (function : A → A → A) (variable : ℕ → A) where
   pub value-var : (n : ℕ) → value A applied function variable (Var n) ≡ variable n

@@ -15,5 +15,4 @@ pub use arity::has_arities;
 pub use general::{instance, is_variable, look_up};
 pub use mono::{Mono, Scheme, copies_of, entity_copied, is_same_entity};
 pub use print::print_in;
-pub use same::are_same;
 pub use spell::TypeScope;

@@ -41,7 +41,7 @@ impl Mono {
 
 /// Whether two lists of types are one.
 #[cycle(same)]
-pub fn are_same(lefts: &[Mono], rights: &[Mono]) -> bool
+fn are_same(lefts: &[Mono], rights: &[Mono]) -> bool
     ensures { IsTrue result ↔ (lefts.now ≡ rights.now) }
 {
     if lefts.len() != rights.len() {

@@ -210,3 +210,78 @@ fn what_has_no_name_has_no_text(rt: HostRuntime) -> Result<(), Fail> {
     assert!(rt; is_written(&rt, alloc, &list(alloc, strange)?, None)?);
     Ok(())
 }
+
+/// So many arrows from Int, to the right.
+fn arrows(alloc: Global, count: u32, end: Mono) -> Result<Mono, AllocError> {
+    let mut ty = end;
+    for _ in 0..count {
+        ty = fun(alloc, int(alloc)?, ty)?;
+    }
+    Ok(ty)
+}
+
+/// So many lists, each in the next.
+fn lists(alloc: Global, count: u32, end: Mono) -> Result<Mono, AllocError> {
+    let mut ty = end;
+    for _ in 0..count {
+        ty = list(alloc, ty)?;
+    }
+    Ok(ty)
+}
+
+/// So many times a word, and a word behind it.
+fn repeated(alloc: Global, count: u32, word: &[u8], last: &[u8]) -> Result<Vec<u8>, AllocError> {
+    let mut text = Vec::new(alloc);
+    for _ in 0..count {
+        text.extend_from_slice(word)?;
+    }
+    text.extend_from_slice(last)?;
+    Ok(text)
+}
+
+#[test]
+fn two_thousand_arrows_are_printed(rt: HostRuntime) -> Result<(), Fail> {
+    let alloc = rt.alloc();
+    let ty = arrows(alloc, 2000, Mono::Var(0))?;
+    let text = repeated(alloc, 2000, b"Int -> ", b"a")?;
+    assert!(rt; is_written(&rt, alloc, &ty, Some(text.as_slice()))?);
+    Ok(())
+}
+
+#[test]
+fn five_hundred_nested_lists_are_printed(rt: HostRuntime) -> Result<(), Fail> {
+    let alloc = rt.alloc();
+    let ty = lists(alloc, 500, Mono::Var(0))?;
+    let mut text = repeated(alloc, 500, b"[", b"a")?;
+    text.extend_from_slice(&[b']'; 500])?;
+    assert!(rt; is_written(&rt, alloc, &ty, Some(text.as_slice()))?);
+    Ok(())
+}
+
+/// Whether `a` behind so many arrows has Int behind so many as an instance.
+fn is_instance_of_arrows(alloc: Global, special: u32, general: u32) -> Result<bool, AllocError> {
+    let special = arrows(alloc, special, int(alloc)?)?;
+    let body = arrows(alloc, general, Mono::Var(0))?;
+    instance(alloc, &Scheme { bound: 1, body }, &special)
+}
+
+/// Whether `a` in so many lists has Int in so many as an instance.
+fn is_instance_of_lists(alloc: Global, special: u32, general: u32) -> Result<bool, AllocError> {
+    let special = lists(alloc, special, int(alloc)?)?;
+    let body = lists(alloc, general, Mono::Var(0))?;
+    instance(alloc, &Scheme { bound: 1, body }, &special)
+}
+
+#[test]
+fn two_thousand_arrows_and_five_hundred_lists_have_their_instances(
+    rt: HostRuntime,
+) -> Result<(), Fail> {
+    let alloc = rt.alloc();
+    assert!(rt; is_instance_of_arrows(alloc, 2000, 2000)?);
+    assert!(rt; is_instance_of_arrows(alloc, 2001, 2000)?);
+    assert!(rt; !is_instance_of_arrows(alloc, 1999, 2000)?);
+    assert!(rt; is_instance_of_lists(alloc, 500, 500)?);
+    assert!(rt; is_instance_of_lists(alloc, 501, 500)?);
+    assert!(rt; !is_instance_of_lists(alloc, 499, 500)?);
+    Ok(())
+}

@@ -1,8 +1,6 @@
-use Rattle.std.proofs.Common.{◌≡◌, take, map, ap, sym, refl, ◌∙◌}
+use Rattle.std.proofs.Common.{map, ap, sym, ◌∙◌}
 use Rattle.std.proofs.lemmas.Bool.{false≢true}
-use Rattle.std.proofs.Common.{ℕ, ◌<◌, length, arith, true}
-use Rattle.hr_type.specs.declared.mono.Mono.TheVariants.{Var}
-use Rattle.hr_type.specs.Matching.{Settles}
+use Rattle.std.proofs.Common.{◌<◌, length, arith, true}
 use Rattle.hr_type.specs.Types.{bounded, replaced}
 use Rattle.hr_type.proofs.Choices.{narrowed, refused, settles_both, fronts_equal, places_equal, fronts_grow, fronts_split, settled_same, settled_both, of_var, con_is_var, con_is_fun, fun_is_var, fun_is_con, con_parts, con_made, fun_parts, fun_made}
 use Rattle.hr_type.proofs.general.+matches.Goals as goal

@@ -1,4 +1,4 @@
-use Rattle.std.proofs.Common.{◌≡◌, ◌<◌, ◌++◌, List, length, map, ap, sym, subst, ◌∙◌, lt-ltb, arith}
+use Rattle.std.proofs.Common.{◌<◌, ◌++◌, List, length, map, ap, sym, subst, ◌∙◌, lt-ltb, arith}
 use Rattle.hr_type.specs.Spelling as spec
 use Rattle.hr_type.specs.Spelling.{Written, bytes_of}
 use Rattle.hr_type.proofs.Spellings.{ok_then, written_var, written_enclosed, written_applied, written_fun, enclosed_bytes, applied_bytes, arrow_bytes, parenthesised_bytes, argument_more, listed_first, listed_more}
