@@ -1,4 +1,6 @@
 mod Lengths
 mod Marks
+mod ReadsAlone
 mod ReadsFit
+mod ReadsKinds
 mod Respelling

@@ -1,1 +1,2 @@
-use Rattle.hr_plain.proofs.ReadsFit.{read_fits}
+use Rattle.hr_plain.proofs.ReadsAlone.{number_alone}
+use Rattle.hr_plain.proofs.ReadsKinds.{number_of}
