@@ -3,4 +3,5 @@ mod Marks
 mod ReadsAlone
 mod ReadsFit
 mod ReadsKinds
+mod ReadsNumbers
 mod Respelling

@@ -1,2 +1,1 @@
-use Rattle.hr_plain.proofs.ReadsAlone.{number_alone}
-use Rattle.hr_plain.proofs.ReadsKinds.{number_of}
+use Rattle.hr_plain.proofs.ReadsNumbers.{number_digits}
