@@ -3,5 +3,7 @@ mod Marks
 mod ReadsAlone
 mod ReadsFit
 mod ReadsKinds
+mod ReadsNames
 mod ReadsNumbers
+mod ReadsTrivia
 mod Respelling

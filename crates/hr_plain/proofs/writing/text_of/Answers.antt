@@ -1,1 +1,3 @@
+use Rattle.hr_plain.proofs.ReadsNames.{equals_fits}
 use Rattle.hr_plain.proofs.ReadsNumbers.{number_digits}
+use Rattle.hr_plain.proofs.ReadsTrivia.{quiet_trivia}
