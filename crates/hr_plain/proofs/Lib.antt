@@ -3,6 +3,8 @@ mod Marks
 mod ReadsAlone
 mod ReadsFit
 mod ReadsKinds
+mod ReadsLexed
+mod ReadsLinks
 mod ReadsNames
 mod ReadsNumbers
 mod ReadsTrivia

@@ -97,11 +97,11 @@ pub space_byte : IsByte 32
 unfolding lib.Utf8.encode
 space_byte = record { scalar = refl; byte = refl }
 
-left_byte : IsByte 40
+pub left_byte : IsByte 40
 unfolding lib.Utf8.encode
 left_byte = record { scalar = refl; byte = refl }
 
-right_byte : IsByte 41
+pub right_byte : IsByte 41
 unfolding lib.Utf8.encode
 right_byte = record { scalar = refl; byte = refl }
 
@@ -109,7 +109,7 @@ pub dash_byte : IsByte 45
 unfolding lib.Utf8.encode
 dash_byte = record { scalar = refl; byte = refl }
 
-equals_byte : IsByte 61
+pub equals_byte : IsByte 61
 unfolding lib.Utf8.encode
 equals_byte = record { scalar = refl; byte = refl }
 

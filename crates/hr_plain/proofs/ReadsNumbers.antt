@@ -72,16 +72,23 @@ not_too_wide c rest d e =
     let small : nat_lt greatest_integer (longest_value c rest) ≡ false = ap (nat_lt greatest_integer) (longest_is c rest value.0 d value.1) ∙ no_wider value.0 value.2 in
     ap (λ b. not (begins_float rest) && b) small ∙ and_false (not (begins_float rest))
 
+-- what is an integer before one text is one before each
+pub integer_anywhere : (w rest other : List ℕ) → class_of w rest ≡ Some Class.Integer → IsUtf8 other → class_of w other ≡ Some Class.Integer
+integer_anywhere w rest other e v =
+    let s : Spelled Class.Integer w rest = spelled Class.Integer w rest e in
+    let number : Number (chars w) = number_of (chars w) (chars rest) s.is in
+    let is : spelled_class (chars w) (chars other) ≡ Some Class.Integer =
+    ap (λ z. spelled_class z (chars other)) number.is ∙ (ap (λ k. spelled_class_by k number.first number.behind (chars other)) number.kind ∙ number.class) in
+    unspelled Class.Integer w other s.front v is
+
 fits_alone : (w rest : List ℕ) → class_of w rest ≡ Some Class.Integer → Fits class_of bars Class.Integer w []
 fits_alone w rest e =
     let s : Spelled Class.Integer w rest = spelled Class.Integer w rest e in
     let number : Number (chars w) = number_of (chars w) (chars rest) s.is in
-    let is : spelled_class (chars w) (chars []) ≡ Some Class.Integer =
-    ap (λ z. spelled_class z (chars [])) number.is ∙ (ap (λ k. spelled_class_by k number.first number.behind (chars [])) number.kind ∙ number.class) in
     let free : spelled_bars (chars w) ≡ false =
     ap spelled_bars number.is ∙ (ap (λ k. spelled_bars_by k number.first number.behind) number.kind ∙ not_too_wide number.first number.behind (digit_decimal number.first number.kind) number.class) in
     record {
-      is = unspelled Class.Integer w [] s.front IsUtf8-nil is;
+      is = integer_anywhere w rest [] e IsUtf8-nil;
       longest = λ longer other whole some.
           let lengths : length (w ++ []) ≡ length (longer ++ other) = ap length whole in
           omega (arith, lengths, length-append w [], length-append longer other);

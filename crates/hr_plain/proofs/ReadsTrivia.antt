@@ -102,7 +102,7 @@ no_line : (cs : List ℕ) → spelled_bars cs ≡ false → cs ≢ [] → stops 
 no_line [] free some e = some refl
 no_line (c ∷ rest) free some e = no_newline c rest free (is_newline c) refl e
 
-not_empty : (class : Class) (text after : List ℕ) → class_of text after ≡ Some class → text ≢ []
+pub not_empty : (class : Class) (text after : List ℕ) → class_of text after ≡ Some class → text ≢ []
 not_empty class text after e empty = no_class (sym (ap (λ t. class_of t after) empty) ∙ e)
   where
     no_class : class_of [] after ≡ Some class → ⊥
