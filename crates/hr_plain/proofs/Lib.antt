@@ -2,10 +2,12 @@ mod Lengths
 mod Marks
 mod ReadsAlone
 mod ReadsFit
+mod ReadsForm
 mod ReadsKinds
 mod ReadsLexed
 mod ReadsLinks
 mod ReadsNames
 mod ReadsNumbers
+mod ReadsTarget
 mod ReadsTrivia
 mod Respelling

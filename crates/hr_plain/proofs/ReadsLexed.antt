@@ -1,7 +1,7 @@
 -- Items that lex the text that they join to, and the lexemes of the plain form.
 use Rattle.std.proofs.Common.{◌≡◌, ◌≢◌, ℕ, ◌==◌, Bool, true, false, cond, not, List, [], ◌∷◌, ◌++◌, take, drop, Some, None, refl, sym, ap, subst, ◌∙◌, true≢false, append-nil, take-append-drop}
-use Rattle.std.specs.Prelude.{nat_eq, ⊤}
-use Rattle.std.specs.List.{starts_with}
+use Rattle.std.specs.Prelude.{nat_eq}
+use Rattle.std.specs.List.{AllByRecursion, starts_with}
 use Rattle.std.specs.Str.{chars, IsUtf8}
 use Rattle.std.proofs.lemmas.Slice.Eq.{bytes_eq-Decides}
 use Rattle.std.proofs.lemmas.Str.{chars-append, chars-encodes, chars-nil, IsUtf8-append}
@@ -38,8 +38,7 @@ pub record IsPlainItem (item : Item) : Type 0 where
   pub trivia : is_plain_trivia item.trivia ≡ true
 
 abbrev pub ArePlain : List Item → Type 0
-ArePlain [] = ⊤
-ArePlain (item ∷ items) = IsPlainItem item × ArePlain items
+ArePlain items = AllByRecursion IsPlainItem items
 
 -- ---- items that lex the text that they join to
 abbrev pub Lexed : List Item → List ℕ → Type 0
@@ -197,7 +196,7 @@ take_none : (text : List ℕ) → take 0 text ≡ []
 take_none [] = refl
 take_none (c ∷ text) = refl
 
-led_by_nothing : (list : List Item) (tail : List ℕ) → led_by [] list tail ≡ record { list = list; tail = tail }
+pub led_by_nothing : (list : List Item) (tail : List ℕ) → led_by [] list tail ≡ record { list = list; tail = tail }
 led_by_nothing [] tail = refl
 led_by_nothing (item ∷ list) tail = refl
 

@@ -88,6 +88,7 @@ newline_kind c e = by (c == 10) (c == 12) (c == 13) refl refl refl e
   where
     is_eq : (a b : ℕ) → (a == b) ≡ true → a ≡ b
     is_eq a b e = grind arith
+
     by : (x y z : Bool) → (c == 10) ≡ x → (c == 12) ≡ y → (c == 13) ≡ z → ((x || y) || z) ≡ true → kind_of c ≡ Kind.Newline
     by true y z p q r e = ap kind_of (is_eq c 10 p)
     by false true z p q r e = ap kind_of (is_eq c 12 q)
@@ -174,6 +175,7 @@ plain_first c rest e = by (c == 45) (c == 32) (c == 10) refl refl refl e
   where
     is_eq : (a b : ℕ) → (a == b) ≡ true → a ≡ b
     is_eq a b e = grind arith
+
     by : (x y z : Bool) → (c == 45) ≡ x → (c == 32) ≡ y → (c == 10) ≡ z → cond x (is_plain_trivia_where true rest) ((y || z) && is_plain_trivia_where false rest) ≡ true → (c ≡ 45) ⊎ ((c ≡ 32) ⊎ (c ≡ 10))
     by true y z p q r e = inl (is_eq c 45 p)
     by false true z p q r e = inr (inl (is_eq c 32 q))
