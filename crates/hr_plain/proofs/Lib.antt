@@ -1,5 +1,6 @@
 mod Lengths
 mod Marks
+mod Parting
 mod ReadsAlone
 mod ReadsFit
 mod ReadsForm
