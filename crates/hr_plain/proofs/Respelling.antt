@@ -32,7 +32,7 @@ SoFar new marks olds items before = AllRespell new [] marks olds items × (befor
 pub at_start : (new : List ℕ) (marks : List Bool) (olds items : List Item) (before : List ℕ) → items ≡ [] → before ≡ [] → SoFar new (take 0 marks) (take 0 olds) items before
 at_start new marks olds items before e f = (
   subst (λ ms. AllRespell new [] ms (take 0 olds) items) (sym (take_zero marks))
-  (subst (λ os. AllRespell new [] [] os items) (sym (take_zero olds)) (subst (AllRespell new [] [] []) (sym e) (none []))),
+      (subst (λ os. AllRespell new [] [] os items) (sym (take_zero olds)) (subst (AllRespell new [] [] []) (sym e) (none []))),
   f ∙ ap (last_text []) (sym e),
 )
 
