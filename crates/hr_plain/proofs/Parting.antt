@@ -1,5 +1,5 @@
 -- What is put between a new text and the lexeme before it.
-use Rattle.std.proofs.Common.{◌≡◌, ℕ, suc, ◌==◌, Bool, true, false, List, [], ◌∷◌, length, Result, Ok, Err, IfOk, sym, subst, ◌∙◌, true≢false, arith}
+use Rattle.std.proofs.Common.{◌≡◌, ℕ, suc, ◌==◌, Bool, true, false, List, [], ◌∷◌, length, Result, Ok, Err, IfOk, refl, sym, ap, subst, ◌∙◌, true≢false, arith}
 use Rattle.hr_lexer.specs.Words.{AreApart, Tells}
 use Rattle.hr_plain.specs.Target.{IsParted}
 use Rattle.hr_plain.specs.Target.IsParted.{first, kept, apart, put}

@@ -1,4 +1,4 @@
-use Rattle.std.proofs.Common.{[], ◌∷◌, refl}
+use Rattle.std.proofs.Common.{◌≡◌, [], ◌∷◌, refl}
 use Rattle.hr_plain.proofs.Parting.{behind_nothing, behind_trivia, behind_apart, behind_near, made, told_apart, told_near}
 use Rattle.hr_plain.proofs.writing.parted.Goals as goal
 
