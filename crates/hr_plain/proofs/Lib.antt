@@ -1,3 +1,14 @@
 mod Lengths
 mod Marks
+mod Parting
+mod ReadsAlone
+mod ReadsFit
+mod ReadsForm
+mod ReadsKinds
+mod ReadsLexed
+mod ReadsLinks
+mod ReadsNames
+mod ReadsNumbers
+mod ReadsTarget
+mod ReadsTrivia
 mod Respelling
