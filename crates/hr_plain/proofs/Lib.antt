@@ -1,3 +1,6 @@
 mod Lengths
 mod Marks
+mod Nodes
+mod Refilled
 mod Respelling
+mod Turned

@@ -1,0 +1,1 @@
+use Rattle.hr_plain.proofs.Refilled.{refilled}
