@@ -3,4 +3,6 @@ mod Marks
 mod Nodes
 mod Refilled
 mod Respelling
+mod SameBinders
+mod TargetTree
 mod Turned

@@ -1,1 +1,2 @@
-use Rattle.hr_plain.proofs.Refilled.{refilled}
+use Rattle.hr_plain.proofs.TargetTree.{equations_taken}
+use Rattle.hr_plain.proofs.SameBinders.{binders_stay}
