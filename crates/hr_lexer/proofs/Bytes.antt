@@ -81,7 +81,7 @@ spelled_by text after cs s e are =
       whole = sym (chars-encodes cs s) ∙ ap chars e ∙ chars-append text after left;
     }
 
-class_are : (b : Bool) (x : Option Class) → IsSome (cond b x None) → b ≡ true
+pub class_are : (b : Bool) (x : Option Class) → IsSome (cond b x None) → b ≡ true
 class_are true x e = refl
 class_are false x e = absurd (true≢false (sym e))
 

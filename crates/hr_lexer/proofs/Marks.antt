@@ -15,7 +15,7 @@ mark_bytes : encode 0xFEFF ≡ byte_order_mark
 unfolding encode
 mark_bytes = refl
 
-begins_mark : (bytes : List ℕ) → starts_with nat_eq bytes byte_order_mark ≡ true → bytes ≡ encode 0xFEFF ++ drop 3 bytes
+pub begins_mark : (bytes : List ℕ) → starts_with nat_eq bytes byte_order_mark ≡ true → bytes ≡ encode 0xFEFF ++ drop 3 bytes
 begins_mark bytes e =
     let same : byte_order_mark ≡ take 3 bytes = (bytes_eq-Decides byte_order_mark (take 3 bytes)).0 e in
     sym (take-append-drop 3 bytes) ∙ ap (λ x. x ++ drop 3 bytes) (sym same ∙ sym mark_bytes)
