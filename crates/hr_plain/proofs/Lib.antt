@@ -1,8 +1,12 @@
+mod Instances
 mod Lengths
+mod Lexed
 mod Marks
 mod Nodes
 mod Refilled
+mod Renames
 mod Respelling
 mod SameBinders
+mod SameForm
 mod TargetTree
 mod Turned

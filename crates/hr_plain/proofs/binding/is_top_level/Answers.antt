@@ -1,2 +1,1 @@
-use Rattle.hr_plain.proofs.TargetTree.{equations_taken}
-use Rattle.hr_plain.proofs.SameBinders.{binders_stay}
+use Rattle.hr_plain.proofs.Renames.{renamed}
