@@ -3,6 +3,7 @@
 use Rattle.std.proofs.Common.{◌≡◌, ℕ, ◌+◌, suc, Bool, true, false, ◌&&◌, nat_eq, nat_lt, if◌then◌else◌, List, [], ◌∷◌, ◌++◌, length, map, refl, sym, ap, ap₂, ◌∙◌, subst, true≢false}
 use Rattle.std.specs.List.{list_all, flat_map, AllByRecursion as Each}
 use Rattle.std.specs.Cmp.Lexicographic.{pointwise}
+use Rattle.hr_base.specs.declared.lexeme.Class.{Class}
 use Rattle.hr_base.specs.declared.lexeme.Item.{Item}
 use Rattle.hr_tree.specs.declared.tree.Exp.{Exp}
 use Rattle.hr_tree.specs.declared.tree.Exp.TheVariants.{Variable, Integer, Group, Apply}
@@ -63,6 +64,9 @@ named_text : (old : List ℕ) (x : Item) → is_named old x ≡ true → x.lexem
 unfolding is_named
 named_text old x e = same_text x.lexeme.text old (both_right (is_variable x) (pointwise nat_eq x.lexeme.text old) e)
 
+mark_text : (c : ℕ) (x : Item) → is_mark c x ≡ true → pointwise nat_eq x.lexeme.text (c ∷ []) ≡ true
+mark_text c x e = e
+
 module _ (new old : List ℕ) where
   ascii_by : (b : Bool) (text : List ℕ) → is_ascii_text new ≡ true → is_ascii_text text ≡ true → is_ascii_text (if b then new else text) ≡ true
   ascii_by true text n t = n
@@ -80,8 +84,10 @@ module _ (new old : List ℕ) where
   mark_turned sought x y c r other e = by (is_named old x) refl
     where
       by : (v : Bool) → is_named old x ≡ v → is_mark c y ≡ true
-      by true v = absurd (true≢false (sym e ∙ ap (λ t. pointwise nat_eq t (c ∷ [])) (named_text old x v) ∙ other))
-      by false v = ap (λ t. pointwise nat_eq t (c ∷ [])) (text_of_unnamed new old sought x y r v) ∙ e
+      by true v = absurd (true≢false (sym (mark_text c x e) ∙ ap (λ t. pointwise nat_eq t (c ∷ [])) (named_text old x v) ∙ other))
+      by false v =
+          ap₂ (λ (k : Class) (t : List ℕ). is_mark c (record { trivia = []; lexeme = record { class = k; text = t } }))
+          r.class (text_of_unnamed new old sought x y r v) ∙ e
 
   only_one : (sought : Bool) (x : Item) (items : List Item) → EachTurns new old sought (x ∷ []) items → Only new old sought x items
   only_one sought x [] r = absurd r

@@ -82,22 +82,25 @@ pub record Split {X Y : Type 0} (f : X → Y) (xs : List X) (before : List Y) (n
   pub here_is : f here ≡ name
   pub back_is : map f back ≡ rest
 
+one_before : {X Y : Type 0} (f : X → Y) (x : X) (xs : List X) (b : Y) (before : List Y) (name : Y) (rest : List Y) → f x ≡ b → Split f xs before name rest → Split f (x ∷ xs) (b ∷ before) name rest
+one_before f x xs b before name rest same s = record {
+  front = x ∷ s.front;
+  here = s.here;
+  back = s.back;
+  is = ap (λ l. x ∷ l) s.is;
+  front_is = ap₂ (λ a l. a ∷ l) same s.front_is;
+  here_is = s.here_is;
+  back_is = s.back_is;
+}
+
 split : {X Y : Type 0} (f : X → Y) (xs : List X) (before : List Y) (name : Y) (rest : List Y) → map f xs ≡ before ++ (name ∷ rest) → Split f xs before name rest
 split f [] [] name rest e = absurd cc
 split f [] (b ∷ before) name rest e = absurd cc
 split f (x ∷ xs) [] name rest e = record { front = []; here = x; back = xs; is = refl; front_is = refl; here_is = cc; back_is = cc }
 split f (x ∷ xs) (b ∷ before) name rest e =
-    let s = split f xs before name rest cc in
     let same : f x ≡ b = cc in
-    record {
-      front = x ∷ s.front;
-      here = s.here;
-      back = s.back;
-      is = ap (λ l. x ∷ l) s.is;
-      front_is = ap₂ (λ a l. a ∷ l) same s.front_is;
-      here_is = s.here_is;
-      back_is = s.back_is;
-    }
+    let tail : map f xs ≡ before ++ (name ∷ rest) = cc in
+    one_before f x xs b before name rest same (split f xs before name rest tail)
 
 module _ (new old : List ℕ) where
   -- one that stands there in a list of which none is new is not

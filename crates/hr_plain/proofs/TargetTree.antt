@@ -74,6 +74,27 @@ pub record TakenEquations (new old : List ℕ) (owner : Owner) (number : ℕ) (x
   pub yields : flat_map equation_items equations ≡ items
   pub turns : EachEquationTurns new old owner number xs equations
 
+-- the items of an equation, from its parts
+parts_join : (items front behind back inner others : List Item) (name equals : Item) → items ≡ front ++ behind → behind ≡ equals ∷ back → back ≡ inner ++ others
+    → name ∷ items ≡ name ∷ ((front ++ (equals ∷ inner)) ++ others)
+parts_join items front behind back inner others name equals a b c =
+    ap (λ l. name ∷ l) (a ∙ ap (λ l. front ++ l) (b ∙ ap (λ l. equals ∷ l) c) ∙ sym (append_assoc front (equals ∷ inner) others))
+
+-- items that begin so
+begin_so : (items front back inner : List Item) → items ≡ front ++ back → inner ≡ front → items ≡ inner ++ back
+begin_so items front back inner a b = a ∙ ap (λ l. l ++ back) (sym b)
+
+turns_into : (new old : List ℕ) (sought : Bool) (xs front inner : List Item) → EachTurns new old sought xs front → inner ≡ front → EachTurns new old sought xs inner
+turns_into new old sought xs front inner r e = subst (EachTurns new old sought xs) (sym e) r
+
+-- marks and items, apart
+apart_again : (new : List ℕ) (in_patterns in_body marks : List Bool) (patterns body zs items : List Item) (equals : Item)
+    → EachMarked new ((in_patterns ++ (false ∷ in_body)) ++ marks) ((patterns ++ (equals ∷ body)) ++ zs) items
+    → EachMarked new (in_patterns ++ (false ∷ (in_body ++ marks))) (patterns ++ (equals ∷ (body ++ zs))) items
+apart_again new in_patterns in_body marks patterns body zs items equals r =
+    subst (λ ms. EachMarked new ms (patterns ++ (equals ∷ (body ++ zs))) items) (append_assoc in_patterns (false ∷ in_body) marks)
+    (subst (λ l. EachMarked new ((in_patterns ++ (false ∷ in_body)) ++ marks) l items) (append_assoc patterns (equals ∷ body) zs) r)
+
 module _ (new old : List ℕ) where
   taken : (sought : Bool) (xs : List Item) (marks : List Bool) (zs items : List Item)
       → EachMarked new (map (λ x. sought && is_named old x) xs ++ marks) (xs ++ zs) items → Taken new old sought xs marks zs items
@@ -102,23 +123,20 @@ module _ (new old : List ℕ) where
       let in_patterns : List Bool = map (λ i. own && is_named old i) x.patterns in
       let in_body : List Bool = map (λ i. inner && is_named old i) (yield_of x.body) in
       let apart : EachMarked new (in_patterns ++ (false ∷ (in_body ++ marks))) (x.patterns ++ (x.equals ∷ (yield_of x.body ++ zs))) items =
-          subst (λ ms. EachMarked new ms (x.patterns ++ (x.equals ∷ (yield_of x.body ++ zs))) items) (append_assoc in_patterns (false ∷ in_body) marks)
-          (subst (λ l. EachMarked new ((in_patterns ++ (false ∷ in_body)) ++ marks) l items) (append_assoc x.patterns (x.equals ∷ yield_of x.body) zs) r.1) in
+          apart_again new in_patterns in_body marks x.patterns (yield_of x.body) zs items x.equals r.1 in
       let t = taken own x.patterns (false ∷ (in_body ++ marks)) (x.equals ∷ (yield_of x.body ++ zs)) items apart in
       let b = behind x.equals (in_body ++ marks) (yield_of x.body ++ zs) t.back t.second in
       let u = taken inner (yield_of x.body) marks zs b.back b.second in
       let e = refilled new old x.body inner u.front u.first in
-      let body_is : b.back ≡ yield_of e.exp ++ u.back = u.is ∙ ap (λ l. l ++ u.back) (sym e.yields) in
-      let items_are : items ≡ t.front ++ (x.equals ∷ (yield_of e.exp ++ u.back)) = t.is ∙ ap (λ l. t.front ++ l) (b.is ∙ ap (λ l. x.equals ∷ l) body_is) in
       record {
         equation = record { name = y; patterns = t.front; equals = x.equals; body = e.exp };
         back = u.back;
-        is = ap (λ l. y ∷ l) (items_are ∙ sym (append_assoc t.front (x.equals ∷ yield_of e.exp) u.back));
+        is = parts_join items t.front t.back b.back (yield_of e.exp) u.back y x.equals t.is b.is (begin_so b.back u.front u.back (yield_of e.exp) u.is e.yields);
         turns = record {
           name = record { class = r.0.class; text = r.0.text };
           patterns = t.first;
           equals = refl;
-          body = subst (λ l. EachTurns new old inner (yield_of x.body) l) (sym e.yields) u.first;
+          body = turns_into new old inner (yield_of x.body) u.front (yield_of e.exp) u.first e.yields;
           kept = e.kept;
         };
         second = u.second;
