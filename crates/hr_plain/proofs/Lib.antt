@@ -3,6 +3,7 @@ mod Lengths
 mod Lexed
 mod Marks
 mod Nodes
+mod Parting
 mod Refilled
 mod Renames
 mod Respelling

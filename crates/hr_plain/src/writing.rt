@@ -1,4 +1,4 @@
-ghost use Rattle.std.specs.Prelude.{◌≡◌, length, IfOk};
+ghost use Rattle.std.specs.Prelude.{◌≡◌, length, IfOk, if◌then◌else◌};
 ghost use Rattle.hr_plain.specs.Target.{IsParted, Respells, RespellsAll};
 
 use hr_base::{Item, Items, Lexeme, Seq, Text};
@@ -30,7 +30,9 @@ pub fn respelled(
 }
 
 /// The text of the item, which is the new one if it is marked.
-fn text_of<'a>(item: &'a Item, marked: bool, new: &'a Text) -> &'a [u8] {
+fn text_of<'a>(item: &'a Item, marked: bool, new: &'a Text) -> &'a [u8]
+    ensures { result.now ≡ (if marked then new.now else item.now.lexeme.text) }
+{
     if marked {
         new.as_slice()
     } else {
@@ -70,6 +72,6 @@ fn parted(alloc: Global, trivia: &Text, before: &[u8], new: &Text) -> Result<Tex
     if trivia.is_empty() && !before.is_empty() && !are_apart(alloc, before, new.as_slice())? {
         Text::from_slice(alloc, b" ")
     } else {
-        trivia.clone()
+        Text::from_slice(alloc, trivia.as_slice())
     }
 }
