@@ -138,8 +138,8 @@ module _ (new old : List ℕ) where
       ap (λ s. s.is_form) (shape_group y exp z)
       ∙ both (is_mark 40 y && (shape_of exp).is_form) (is_mark 41 z)
       (both (is_mark 40 y) (shape_of exp).is_form
-        (mark_turned sought left y 40 l m.not_left (both_left (is_mark 40 left) (shape_of inner).is_form front))
-        (k.form n m (both_right (is_mark 40 left) (shape_of inner).is_form front)))
+      (mark_turned sought left y 40 l m.not_left (both_left (is_mark 40 left) (shape_of inner).is_form front))
+      (k.form n m (both_right (is_mark 40 left) (shape_of inner).is_form front)))
       (mark_turned sought right z 41 r m.not_right (both_right (is_mark 40 left && (shape_of inner).is_form) (is_mark 41 right) whole))
 
   group_refilled : (sought : Bool) (left right : Item) (inner : Exp) (items : List Item) → Refills inner

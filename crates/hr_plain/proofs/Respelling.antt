@@ -33,10 +33,11 @@ SoFar new marks olds items before = AllRespell new [] marks olds items × (befor
 
 -- at the start none is
 pub at_start : (new : List ℕ) (marks : List Bool) (olds items : List Item) (before : List ℕ) → items ≡ [] → before ≡ [] → SoFar new (take 0 marks) (take 0 olds) items before
-at_start new marks olds items before e f =
-    (subst (λ ms. AllRespell new [] ms (take 0 olds) items) (sym (take_zero marks))
+at_start new marks olds items before e f = (
+  subst (λ ms. AllRespell new [] ms (take 0 olds) items) (sym (take_zero marks))
       (subst (λ os. AllRespell new [] [] os items) (sym (take_zero olds)) (subst (AllRespell new [] [] []) (sym e) (none []))),
-      f ∙ ap (last_text []) (sym e))
+  f ∙ ap (last_text []) (sym e),
+)
 
 -- the item at a place comes behind those before it
 pub next : (new : List ℕ) (marks : List Bool) (olds items longer : List Item) (place : ℕ) (d : Bool) (old item : Item) (before text : List ℕ) → place < length olds → length marks ≡ length olds
@@ -47,12 +48,13 @@ next new marks olds items longer place d old item before text within same o e so
     let mark : Bool = get_or marks place d in
     let in_marks : place < length marks = omega (arith, within, same) in
     let taken_marks : take (place + 1) marks ≡ take place marks ++ mark ∷ [] = take_more marks place d in_marks in
-    let taken_olds : take (place + 1) olds ≡ take place olds ++ old ∷ [] = take_more olds place old within ∙ ap (λ x. take place olds ++ x ∷ []) (sym o) in
-    (subst (λ ms. AllRespell new [] ms (take (place + 1) olds) longer) (sym taken_marks)
-      (subst (λ os. AllRespell new [] (take place marks ++ mark ∷ []) os longer) (sym taken_olds)
-        (subst (AllRespell new [] (take place marks ++ mark ∷ []) (take place olds ++ old ∷ [])) (sym e)
+    let taken_olds : take (place + 1) olds ≡ take place olds ++ old ∷ [] = take_more olds place old within ∙ ap (λ x. take place olds ++ x ∷ []) (sym o) in (
+      subst (λ ms. AllRespell new [] ms (take (place + 1) olds) longer) (sym taken_marks)
+          (subst (λ os. AllRespell new [] (take place marks ++ mark ∷ []) os longer) (sym taken_olds)
+          (subst (AllRespell new [] (take place marks ++ mark ∷ []) (take place olds ++ old ∷ [])) (sym e)
           (one_more mark old item so_far.0 (subst (λ b. Respells new mark b old item) so_far.1 r)))),
-      t ∙ sym (text_respelled new before mark old item r) ∙ sym (last_more [] items item) ∙ ap (last_text []) (sym e))
+      t ∙ sym (text_respelled new before mark old item r) ∙ sym (last_more [] items item) ∙ ap (last_text []) (sym e),
+    )
 
 -- all of them
 pub whole : (new : List ℕ) (marks : List Bool) (olds items : List Item) (place : ℕ) → length olds ≤ place → length marks ≡ length olds

@@ -84,9 +84,9 @@ module _ (new old : List ℕ) where
   equation_long owner number x y r =
       ap suc
       (length-append y.patterns (y.equals ∷ yield_of y.body)
-        ∙ ap₂ (λ a b. a + suc b) (length_turned new old (is_same_owner (Owner.Equation number) owner) x.patterns y.patterns r.patterns)
-        (length_turned new old (is_same_owner (owner_in number x old) owner) (yield_of x.body) (yield_of y.body) r.body)
-        ∙ sym (length-append x.patterns (x.equals ∷ yield_of x.body)))
+      ∙ ap₂ (λ a b. a + suc b) (length_turned new old (is_same_owner (Owner.Equation number) owner) x.patterns y.patterns r.patterns)
+      (length_turned new old (is_same_owner (owner_in number x old) owner) (yield_of x.body) (yield_of y.body) r.body)
+      ∙ sym (length-append x.patterns (x.equals ∷ yield_of x.body)))
 
   defined_turned : (owner : Owner) (number : ℕ) (xs ys : List Equation) → EachEquationTurns new old owner number xs ys → is_spelled new (flat_map equation_items xs) ≡ false
       → (t : List ℕ) → pointwise nat_eq t new ≡ false → (lexeme : ℕ) → defined_from (turned new old (is_same_owner Owner.TopLevel owner) t) lexeme ys ≡ defined_from t lexeme xs
@@ -128,14 +128,14 @@ module _ (new old : List ℕ) where
       let top : Bool = is_same_owner Owner.TopLevel owner in
       let inner : Bool = is_same_owner (owner_in number x old) owner in
       let name : binder_of defined' y.name ≡ binder_of defined x.name =
-          binder_turned new old top x.name y.name defined defined' r.name (same x.name.lexeme.text (fresh_name x fresh)) in
+      binder_turned new old top x.name y.name defined defined' r.name (same x.name.lexeme.text (fresh_name x fresh)) in
       let patterns : map (binder_of (λ t. named_from t (lexeme + 1) y.patterns)) y.patterns ≡ map (binder_of (λ t. named_from t (lexeme + 1) x.patterns)) x.patterns =
-          binders_turned new old own x.patterns y.patterns (λ t. named_from t (lexeme + 1) x.patterns) (λ t. named_from t (lexeme + 1) y.patterns) r.patterns (fresh_patterns x fresh)
-          (λ t n. named_from-turned new old own x.patterns y.patterns r.patterns (fresh_patterns x fresh) t n (lexeme + 1)) in
+      binders_turned new old own x.patterns y.patterns (λ t. named_from t (lexeme + 1) x.patterns) (λ t. named_from t (lexeme + 1) y.patterns) r.patterns (fresh_patterns x fresh)
+      (λ t n. named_from-turned new old own x.patterns y.patterns r.patterns (fresh_patterns x fresh) t n (lexeme + 1)) in
       let body : map (binder_of (λ t. option_or (named_from t (lexeme + 1) y.patterns) (defined' t))) (yield_of y.body)
-          ≡ map (binder_of (λ t. option_or (named_from t (lexeme + 1) x.patterns) (defined t))) (yield_of x.body) =
-          binders_turned new old inner (yield_of x.body) (yield_of y.body) (λ t. option_or (named_from t (lexeme + 1) x.patterns) (defined t)) (λ t. option_or (named_from t (lexeme + 1) y.patterns) (defined' t)) r.body (fresh_body x fresh)
-          (body_bound owner number x y defined defined' lexeme r fresh same) in
+      ≡ map (binder_of (λ t. option_or (named_from t (lexeme + 1) x.patterns) (defined t))) (yield_of x.body) =
+      binders_turned new old inner (yield_of x.body) (yield_of y.body) (λ t. option_or (named_from t (lexeme + 1) x.patterns) (defined t)) (λ t. option_or (named_from t (lexeme + 1) y.patterns) (defined' t)) r.body (fresh_body x fresh)
+      (body_bound owner number x y defined defined' lexeme r fresh same) in
       ap₂ (λ (a : Option ℕ) (b : List (Option ℕ)). a ∷ b) name (ap₂ (λ (a b : List (Option ℕ)). a ++ (None ∷ b)) patterns body)
 
   binders_bound : (owner : Owner) (number : ℕ) (xs ys : List Equation) (defined defined' : List ℕ → Option ℕ) (lexeme : ℕ) → EachEquationTurns new old owner number xs ys

@@ -108,9 +108,10 @@ module _ (new old : List ℕ) where
       → (pointwise nat_eq here new ≡ false) × (list_any (λ t. pointwise nat_eq t new) back ≡ false)
   here_fresh ts front back here e fresh =
       let rest : list_any (λ t. pointwise nat_eq t new) (here ∷ back) ≡ false =
-          none_right (λ t. pointwise nat_eq t new) front (here ∷ back) (sym (ap (list_any (λ t. pointwise nat_eq t new)) e) ∙ fresh) in
-      (neither_left (pointwise nat_eq here new) (list_any (λ t. pointwise nat_eq t new) back) rest,
-        neither_right (pointwise nat_eq here new) (list_any (λ t. pointwise nat_eq t new) back) rest)
+      none_right (λ t. pointwise nat_eq t new) front (here ∷ back) (sym (ap (list_any (λ t. pointwise nat_eq t new)) e) ∙ fresh) in (
+        neither_left (pointwise nat_eq here new) (list_any (λ t. pointwise nat_eq t new) back) rest,
+        neither_right (pointwise nat_eq here new) (list_any (λ t. pointwise nat_eq t new) back) rest,
+      )
 
   apart_were : (sought : Bool) (t u : List ℕ) → pointwise nat_eq t new ≡ false → pointwise nat_eq u new ≡ false → turned new old sought t ≡ turned new old sought u → t ≡ u
   apart_were sought t u n m e =
@@ -126,10 +127,10 @@ module _ (new old : List ℕ) where
       let m = here_fresh s.back u.front u.back u.here u.is n.1 in
       let same : u.here ≡ s.here = apart_were sought u.here s.here m.0 n.0 (u.here_is ∙ sym s.here_is) in
       let whole : ts ≡ s.front ++ (s.here ∷ (u.front ++ (s.here ∷ u.back))) =
-          s.is ∙ ap (λ l. s.front ++ (s.here ∷ l)) (u.is ∙ ap (λ h. u.front ++ (h ∷ u.back)) same) in
+      s.is ∙ ap (λ l. s.front ++ (s.here ∷ l)) (u.is ∙ ap (λ h. u.front ++ (h ∷ u.back)) same) in
       subst (All (λ other. other ≡ name)) u.front_is
       (All-map (λ other. other ≡ name) f u.front
-        (All-weaker (λ other. other ≡ s.here) (λ other. f other ≡ name) (λ other h. ap f h ∙ s.here_is) u.front (t s.front u.front u.back s.here whole)))
+      (All-weaker (λ other. other ≡ s.here) (λ other. f other ≡ name) (λ other h. ap f h ∙ s.here_is) u.front (t s.front u.front u.back s.here whole)))
 
   -- an equation
 
@@ -157,13 +158,13 @@ module _ (new old : List ℕ) where
       let names : (is_plain_variable x.name && list_all is_pattern x.patterns) ≡ true = both_left (is_plain_variable x.name && list_all is_pattern x.patterns) (is_mark 61 x.equals) left in
       both (front y) (back y)
       (both (is_plain_variable y.name && list_all is_pattern y.patterns) (is_mark 61 y.equals)
-        (both (is_plain_variable y.name) (list_all is_pattern y.patterns)
-          (plain_turned new old (is_same_owner Owner.TopLevel owner) x.name y.name r.name n (both_left (is_plain_variable x.name) (list_all is_pattern x.patterns) names))
-          (patterns_turned (is_same_owner (Owner.Equation number) owner) x.patterns y.patterns r.patterns n (both_right (is_plain_variable x.name) (list_all is_pattern x.patterns) names)))
-        (ap (is_mark 61) r.equals ∙ both_right (is_plain_variable x.name && list_all is_pattern x.patterns) (is_mark 61 x.equals) left))
+      (both (is_plain_variable y.name) (list_all is_pattern y.patterns)
+      (plain_turned new old (is_same_owner Owner.TopLevel owner) x.name y.name r.name n (both_left (is_plain_variable x.name) (list_all is_pattern x.patterns) names))
+      (patterns_turned (is_same_owner (Owner.Equation number) owner) x.patterns y.patterns r.patterns n (both_right (is_plain_variable x.name) (list_all is_pattern x.patterns) names)))
+      (ap (is_mark 61) r.equals ∙ both_right (is_plain_variable x.name && list_all is_pattern x.patterns) (is_mark 61 x.equals) left))
       (both (shape_of y.body).is_form (nat_le (height_of y.body) greatest_height)
-        (r.kept.form n m (both_left (shape_of x.body).is_form (nat_le (height_of x.body) greatest_height) right))
-        (ap (λ h. nat_le h greatest_height) r.kept.height ∙ both_right (shape_of x.body).is_form (nat_le (height_of x.body) greatest_height) right))
+      (r.kept.form n m (both_left (shape_of x.body).is_form (nat_le (height_of x.body) greatest_height) right))
+      (ap (λ h. nat_le h greatest_height) r.kept.height ∙ both_right (shape_of x.body).is_form (nat_le (height_of x.body) greatest_height) right))
 
   equations_turned : (owner : Owner) (number : ℕ) (xs ys : List Equation) → EachEquationTurns new old owner number xs ys → is_ascii_text new ≡ true → IsNoMark old
       → All (λ equation. is_equation equation ≡ true) xs → All (λ equation. is_equation equation ≡ true) ys
@@ -181,10 +182,10 @@ module _ (new old : List ℕ) where
   starts_turned owner number (x ∷ xs) [] r = absurd r
   starts_turned owner number (x ∷ xs) (y ∷ ys) r =
       let long : length (y.patterns ++ (y.equals ∷ yield_of y.body)) ≡ length (x.patterns ++ (x.equals ∷ yield_of x.body)) =
-          length-append y.patterns (y.equals ∷ yield_of y.body)
-          ∙ ap₂ (λ a b. a + suc b) (length_turned new old (is_same_owner (Owner.Equation number) owner) x.patterns y.patterns r.0.patterns)
-          (length_turned new old (is_same_owner (owner_in number x old) owner) (yield_of x.body) (yield_of y.body) r.0.body)
-          ∙ sym (length-append x.patterns (x.equals ∷ yield_of x.body)) in
+      length-append y.patterns (y.equals ∷ yield_of y.body)
+      ∙ ap₂ (λ a b. a + suc b) (length_turned new old (is_same_owner (Owner.Equation number) owner) x.patterns y.patterns r.0.patterns)
+      (length_turned new old (is_same_owner (owner_in number x old) owner) (yield_of x.body) (yield_of y.body) r.0.body)
+      ∙ sym (length-append x.patterns (x.equals ∷ yield_of x.body)) in
       ap₂ (λ (a b : List Bool). (true ∷ a) ++ b) (falses (y.patterns ++ (y.equals ∷ yield_of y.body)) (x.patterns ++ (x.equals ∷ yield_of x.body)) long)
       (starts_turned owner (suc number) xs ys r.1)
 
@@ -196,7 +197,7 @@ module _ (new old : List ℕ) where
       let back : Bool = (shape_of x.body).is_form && nat_le (height_of x.body) greatest_height in
       both_left (is_variable x.name) (is_ascii_text x.name.lexeme.text)
       (both_left (is_plain_variable x.name) (list_all is_pattern x.patterns)
-        (both_left (is_plain_variable x.name && list_all is_pattern x.patterns) (is_mark 61 x.equals) (both_left front back e)))
+      (both_left (is_plain_variable x.name && list_all is_pattern x.patterns) (is_mark 61 x.equals) (both_left front back e)))
 
   names_turned : (owner : Owner) (number : ℕ) (xs ys : List Equation) → EachEquationTurns new old owner number xs ys → All (λ equation. is_equation equation ≡ true) xs
       → defined_by ys ≡ map (turned new old (is_same_owner Owner.TopLevel owner)) (defined_by xs)
@@ -222,8 +223,8 @@ module _ (new old : List ℕ) where
       let own : Bool = is_same_owner (Owner.Equation number) owner in
       All-cons (λ equation. IsDistinct is_same_text (variables_in equation.patterns)) y ys
       (subst (IsDistinct is_same_text) (sym (variables_turned new old own x.patterns y.patterns r.0.patterns))
-        (distinct_turned new old own (variables_in x.patterns) (fresh_variables new old x.patterns (fresh_patterns new old x (fresh_first new old x xs fresh)))
-          (All-head (λ equation. IsDistinct is_same_text (variables_in equation.patterns)) x xs e)))
+      (distinct_turned new old own (variables_in x.patterns) (fresh_variables new old x.patterns (fresh_patterns new old x (fresh_first new old x xs fresh)))
+      (All-head (λ equation. IsDistinct is_same_text (variables_in equation.patterns)) x xs e)))
       (distinct_patterns owner (suc number) xs ys r.1 (fresh_rest new old x xs fresh) (All-tail (λ equation. IsDistinct is_same_text (variables_in equation.patterns)) x xs e))
 
   -- the names in a body
@@ -241,11 +242,11 @@ module _ (new old : List ℕ) where
         (owner_own owner number x old) (owner_top owner number x old)
         (binds_is y (turned new old own t) ∙ any_named-turned new old own x.patterns y.patterns r.patterns (fresh_patterns new old x fresh) t n ∙ sym (binds_is x t))
         (λ e. binds_is y (turned new old top t)
-          ∙ any_named-turned new old top x.patterns y.patterns (each_turns_either_way new old own top x.patterns y.patterns r.patterns e) (fresh_patterns new old x fresh) t n ∙ sym (binds_is x t))
+        ∙ any_named-turned new old top x.patterns y.patterns (each_turns_either_way new old own top x.patterns y.patterns r.patterns e) (fresh_patterns new old x fresh) t n ∙ sym (binds_is x t))
         (are t n)
         (λ e is a b.
-          let it : binds x t ≡ true = binds_is x t ∙ ap (λ z. list_any (is_named z) x.patterns) is ∙ e in
-          ap (λ z. z || a) it ∙ sym (ap (λ z. z || b) it))
+        let it : binds x t ≡ true = binds_is x t ∙ ap (λ z. list_any (is_named z) x.patterns) is ∙ e in
+        ap (λ z. z || a) it ∙ sym (ap (λ z. z || b) it))
 
     item_bound : (number : ℕ) (x y : Equation) → EquationTurns new old owner number x y → is_spelled new (equation_items x) ≡ false
         → (i j : Item) → Turns new old (is_same_owner (owner_in number x old) owner) i j → pointwise nat_eq i.lexeme.text new ≡ false → is_bound defined' y j ≡ is_bound defined x i
@@ -253,6 +254,7 @@ module _ (new old : List ℕ) where
       where
         inner : Bool
         inner = is_same_owner (owner_in number x old) owner
+
         by : (v : Bool) → is_variable i ≡ v → is_bound defined' y j ≡ is_bound defined x i
         by true v =
             ap₂ (λ (b : Bool) (t : List ℕ). not b || (binds y t || list_any (is_same_text t) defined')) (variable_stays new old inner i j s) (text_of_variable new old inner i j s v)
@@ -278,7 +280,7 @@ module _ (new old : List ℕ) where
     bodies_bound number (x ∷ xs) (y ∷ ys) r fresh e =
         All-cons (λ equation. list_all (is_bound defined' equation) (yield_of equation.body) ≡ true) y ys
         (items_bound number x y r.0 (fresh_first new old x xs fresh) (yield_of x.body) (yield_of y.body) r.0.body (fresh_body new old x (fresh_first new old x xs fresh))
-          ∙ All-head (λ equation. list_all (is_bound defined equation) (yield_of equation.body) ≡ true) x xs e)
+        ∙ All-head (λ equation. list_all (is_bound defined equation) (yield_of equation.body) ≡ true) x xs e)
         (bodies_bound (suc number) xs ys r.1 (fresh_rest new old x xs fresh) (All-tail (λ equation. list_all (is_bound defined equation) (yield_of equation.body) ≡ true) x xs e))
 
   scoped_turned : (owner : Owner) (xs ys : List Equation) → EachEquationTurns new old owner 0 xs ys → is_spelled new (flat_map equation_items xs) ≡ false

@@ -123,7 +123,7 @@ module _ (new old : List ℕ) where
       let in_patterns : List Bool = map (λ i. own && is_named old i) x.patterns in
       let in_body : List Bool = map (λ i. inner && is_named old i) (yield_of x.body) in
       let apart : EachMarked new (in_patterns ++ (false ∷ (in_body ++ marks))) (x.patterns ++ (x.equals ∷ (yield_of x.body ++ zs))) items =
-          apart_again new in_patterns in_body marks x.patterns (yield_of x.body) zs items x.equals r.1 in
+      apart_again new in_patterns in_body marks x.patterns (yield_of x.body) zs items x.equals r.1 in
       let t = taken own x.patterns (false ∷ (in_body ++ marks)) (x.equals ∷ (yield_of x.body ++ zs)) items apart in
       let b = behind x.equals (in_body ++ marks) (yield_of x.body ++ zs) t.back t.second in
       let u = taken inner (yield_of x.body) marks zs b.back b.second in

@@ -141,9 +141,10 @@ module _ (new old : List ℕ) where
   each_turns_either_way sought other [] [] r e = tt
   each_turns_either_way sought other [] (y ∷ ys) r e = absurd r
   each_turns_either_way sought other (x ∷ xs) [] r e = absurd r
-  each_turns_either_way sought other (x ∷ xs) (y ∷ ys) r e =
-      (turns_either_way sought other x y r.0 (neither_left (is_named old x) (list_any (is_named old) xs) e),
-        each_turns_either_way sought other xs ys r.1 (neither_right (is_named old x) (list_any (is_named old) xs) e))
+  each_turns_either_way sought other (x ∷ xs) (y ∷ ys) r e = (
+    turns_either_way sought other x y r.0 (neither_left (is_named old x) (list_any (is_named old) xs) e),
+    each_turns_either_way sought other xs ys r.1 (neither_right (is_named old x) (list_any (is_named old) xs) e),
+  )
 
   pub length_turned : (sought : Bool) (xs ys : List Item) → EachTurns new old sought xs ys → length ys ≡ length xs
   length_turned sought [] [] r = refl
@@ -172,9 +173,9 @@ module _ (new old : List ℕ) where
   binders_turned sought (x ∷ xs) [] bind bind' r fresh same = absurd r
   binders_turned sought (x ∷ xs) (y ∷ ys) bind bind' r fresh same =
       let here : binder_of bind' y ≡ binder_of bind x =
-          binder_turned sought x y bind bind' r.0 (same x.lexeme.text (neither_left (pointwise nat_eq x.lexeme.text new) (is_spelled new xs) fresh)) in
+      binder_turned sought x y bind bind' r.0 (same x.lexeme.text (neither_left (pointwise nat_eq x.lexeme.text new) (is_spelled new xs) fresh)) in
       let there : map (binder_of bind') ys ≡ map (binder_of bind) xs =
-          binders_turned sought xs ys bind bind' r.1 (neither_right (pointwise nat_eq x.lexeme.text new) (is_spelled new xs) fresh) same in
+      binders_turned sought xs ys bind bind' r.1 (neither_right (pointwise nat_eq x.lexeme.text new) (is_spelled new xs) fresh) same in
       ap (λ b. b ∷ map (binder_of bind') ys) here ∙ ap (λ l. binder_of bind x ∷ l) there
 
   -- the variables among items
@@ -213,18 +214,20 @@ module _ (new old : List ℕ) where
   apart_turned : (sought : Bool) (t : List ℕ) (us : List (List ℕ)) → pointwise nat_eq t new ≡ false → list_any (λ t. pointwise nat_eq t new) us ≡ false
       → Each (λ u. is_same_text t u ≡ false) us → Each (λ u. is_same_text (turned new old sought t) u ≡ false) (map (turned new old sought) us)
   apart_turned sought t [] n fresh e = tt
-  apart_turned sought t (u ∷ us) n fresh e =
-      (same_turned sought t u n (neither_left (pointwise nat_eq u new) (list_any (λ t. pointwise nat_eq t new) us) fresh) ∙ e.0,
-        apart_turned sought t us n (neither_right (pointwise nat_eq u new) (list_any (λ t. pointwise nat_eq t new) us) fresh) e.1)
+  apart_turned sought t (u ∷ us) n fresh e = (
+    same_turned sought t u n (neither_left (pointwise nat_eq u new) (list_any (λ t. pointwise nat_eq t new) us) fresh) ∙ e.0,
+    apart_turned sought t us n (neither_right (pointwise nat_eq u new) (list_any (λ t. pointwise nat_eq t new) us) fresh) e.1,
+  )
 
   pub distinct_turned : (sought : Bool) (ts : List (List ℕ)) → list_any (λ t. pointwise nat_eq t new) ts ≡ false
       → IsDistinct is_same_text ts → IsDistinct is_same_text (map (turned new old sought) ts)
   unfolding IsDistinct
   distinct_turned sought [] fresh d = tt
-  distinct_turned sought (t ∷ ts) fresh d =
-      (apart_turned sought t ts (neither_left (pointwise nat_eq t new) (list_any (λ t. pointwise nat_eq t new) ts) fresh)
+  distinct_turned sought (t ∷ ts) fresh d = (
+    apart_turned sought t ts (neither_left (pointwise nat_eq t new) (list_any (λ t. pointwise nat_eq t new) ts) fresh)
         (neither_right (pointwise nat_eq t new) (list_any (λ t. pointwise nat_eq t new) ts) fresh) d.0,
-        distinct_turned sought ts (neither_right (pointwise nat_eq t new) (list_any (λ t. pointwise nat_eq t new) ts) fresh) d.1)
+    distinct_turned sought ts (neither_right (pointwise nat_eq t new) (list_any (λ t. pointwise nat_eq t new) ts) fresh) d.1,
+  )
 
   -- and a text is among texts where it was
   pub among_turned : (sought : Bool) (t : List ℕ) (us : List (List ℕ)) → pointwise nat_eq t new ≡ false → list_any (λ t. pointwise nat_eq t new) us ≡ false

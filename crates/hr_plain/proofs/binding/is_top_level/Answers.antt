@@ -1,1 +1,0 @@
-use Rattle.hr_plain.proofs.Renames.{renamed}
