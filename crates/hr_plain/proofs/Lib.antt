@@ -1,3 +1,9 @@
+mod Atoms
 mod Lengths
 mod Marks
 mod Respelling
+mod Basics
+mod Blanks
+mod Heights
+mod Nodes
+mod Parts
