@@ -1,9 +1,13 @@
+mod Atoms
+mod Basics
+mod Blanks
+mod Heights
 mod Instances
 mod Lengths
-mod Lexed
 mod Marks
 mod Nodes
 mod Parting
+mod Parts
 mod Refilled
 mod Renames
 mod Respelling

@@ -17,7 +17,6 @@ use Rattle.hr_plain.specs.Renaming.{IsFound, IsNameAt, IsRenamed, IsTarget, Resp
 use Rattle.hr_plain.proofs.TargetTree.{each_marked, equations_taken}
 use Rattle.hr_plain.proofs.SameBinders.{binders_stay}
 use Rattle.hr_plain.proofs.SameForm.{form_stays}
-use Rattle.hr_plain.proofs.Lexed.{no_mark}
 use Rattle.hr_plain.proofs.Instances.{reads_as_target}
 
 -- a tree of the target's items
@@ -27,11 +26,9 @@ pub record Aimed (tree : Module) (new : List ℕ) (items : Items) : Type 0 where
   pub form : is_ascii_text new ≡ true → IsForm target
   pub binds : binders_of target ≡ binders_of tree
 
-pub aimed : (bytes : List ℕ) (tree : Module) → IsPlain bytes tree → (lexeme : ℕ) (item : Item) (new : List ℕ) (items : Items)
-    → slice_get (module_items tree) lexeme ≡ Some item → is_variable item ≡ true → is_spelled new (module_items tree) ≡ false
-    → Respelled tree lexeme item.lexeme.text new items → Aimed tree new items
-aimed bytes tree plain lexeme item new items at variable fresh r =
-    let old : List ℕ = item.lexeme.text in
+pub aimed : (tree : Module) → IsForm tree → (lexeme : ℕ) (old new : List ℕ) (items : Items) → is_spelled new (module_items tree) ≡ false
+    → Respelled tree lexeme old new items → Aimed tree new items
+aimed tree form lexeme old new items fresh r =
     let owner : Owner = owner_at tree lexeme old in
     let t = equations_taken new old owner 0 tree.equations items.list (each_marked r.lexemes) in
     let target : Module = record { equations = t.equations; tail = items.tail } in
@@ -39,7 +36,7 @@ aimed bytes tree plain lexeme item new items at variable fresh r =
       target = target;
       yields = ap (λ (l : List Item). record { list = l; tail = items.tail }) t.yields;
       form = λ ascii.
-          form_stays new old owner _ tree target plain.form fresh ascii (no_mark bytes (items_of tree) plain.lexes lexeme item at variable) t.turns
+          form_stays new old owner _ tree target form fresh ascii t.turns
           (subst (AllRespell new [] _ (module_items tree)) (sym t.yields) r.lexemes) r.tail_stays;
       binds = binders_stay new old owner tree.equations t.equations t.turns fresh;
     }
@@ -52,7 +49,7 @@ renamed bytes tree plain module_name pos lexeme old new text items found varid f
     let name : IsNameAt tree module_name pos lexeme item = found.1 in
     let same : item.lexeme.text ≡ old = found.2 in
     let s : Respelled tree lexeme item.lexeme.text new items = subst (λ t. Respelled tree lexeme t new items) (sym same) r in
-    let a = aimed bytes tree plain lexeme item new items name.item_is name.variable fresh s in
+    let a = aimed tree plain.form lexeme item.lexeme.text new items fresh s in
     let reads : LexesText text items = subst (λ t. LexesText t items) (sym is) (reads_as_target bytes tree plain (owner_at tree lexeme item.lexeme.text) item.lexeme.text new varid items s) in
     record {
       lexeme = lexeme;

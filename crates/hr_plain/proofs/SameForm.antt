@@ -15,7 +15,7 @@ use Rattle.hr_plain.specs.Target.AllRespell.{none, more}
 use Rattle.hr_plain.specs.Target.IsParted.{first, kept, apart, put}
 use Rattle.hr_plain.specs.Form.{AreTogether, IsForm, IsScoped, defined_by, ends_line, equation_starts, greatest_height, is_ascii_text, is_at_margin, is_bound, is_equation, is_integer, is_mark, is_pattern, is_plain_trivia, is_plain_trivia_where, is_plain_variable, is_same_text, margins_where, shape_of, starts_of, variables_in}
 use Rattle.hr_plain.proofs.Turned.{turned, Turns, EachTurns, among_turned, any_named-turned, distinct_turned, each_turns_either_way, fresh_variables, is_itself, length_turned, neither_left, neither_right, none_right, same_text, same_turned, text_of_variable, variable_stays, variables_turned}
-use Rattle.hr_plain.proofs.Refilled.{IsNoMark, both, both_left, both_right, integer_turned, plain_turned}
+use Rattle.hr_plain.proofs.Refilled.{both, both_left, both_right, integer_turned, plain_turned}
 use Rattle.hr_plain.proofs.TargetTree.{EquationTurns, EachEquationTurns}
 use Rattle.hr_plain.proofs.SameBinders.{binds_is, fresh_body, fresh_first, fresh_name, fresh_patterns, fresh_rest, owner_own, owner_top, through}
 
@@ -149,8 +149,8 @@ module _ (new old : List ℕ) where
       both (is_pattern y) (list_all is_pattern ys) (pattern_turned sought x y r.0 n (both_left (is_pattern x) (list_all is_pattern xs) e))
       (patterns_turned sought xs ys r.1 n (both_right (is_pattern x) (list_all is_pattern xs) e))
 
-  equation_turned : (owner : Owner) (number : ℕ) (x y : Equation) → EquationTurns new old owner number x y → is_ascii_text new ≡ true → IsNoMark old → is_equation x ≡ true → is_equation y ≡ true
-  equation_turned owner number x y r n m e =
+  equation_turned : (owner : Owner) (number : ℕ) (x y : Equation) → EquationTurns new old owner number x y → is_ascii_text new ≡ true → is_equation x ≡ true → is_equation y ≡ true
+  equation_turned owner number x y r n e =
       let front : Equation → Bool = λ q. (is_plain_variable q.name && list_all is_pattern q.patterns) && is_mark 61 q.equals in
       let back : Equation → Bool = λ q. (shape_of q.body).is_form && nat_le (height_of q.body) greatest_height in
       let left : front x ≡ true = both_left (front x) (back x) e in
@@ -163,18 +163,18 @@ module _ (new old : List ℕ) where
       (patterns_turned (is_same_owner (Owner.Equation number) owner) x.patterns y.patterns r.patterns n (both_right (is_plain_variable x.name) (list_all is_pattern x.patterns) names)))
       (ap (is_mark 61) r.equals ∙ both_right (is_plain_variable x.name && list_all is_pattern x.patterns) (is_mark 61 x.equals) left))
       (both (shape_of y.body).is_form (nat_le (height_of y.body) greatest_height)
-      (r.kept.form n m (both_left (shape_of x.body).is_form (nat_le (height_of x.body) greatest_height) right))
+      (r.kept.form n (both_left (shape_of x.body).is_form (nat_le (height_of x.body) greatest_height) right))
       (ap (λ h. nat_le h greatest_height) r.kept.height ∙ both_right (shape_of x.body).is_form (nat_le (height_of x.body) greatest_height) right))
 
-  equations_turned : (owner : Owner) (number : ℕ) (xs ys : List Equation) → EachEquationTurns new old owner number xs ys → is_ascii_text new ≡ true → IsNoMark old
+  equations_turned : (owner : Owner) (number : ℕ) (xs ys : List Equation) → EachEquationTurns new old owner number xs ys → is_ascii_text new ≡ true
       → All (λ equation. is_equation equation ≡ true) xs → All (λ equation. is_equation equation ≡ true) ys
-  equations_turned owner number [] [] r n m e = e
-  equations_turned owner number [] (y ∷ ys) r n m e = absurd r
-  equations_turned owner number (x ∷ xs) [] r n m e = absurd r
-  equations_turned owner number (x ∷ xs) (y ∷ ys) r n m e =
+  equations_turned owner number [] [] r n e = e
+  equations_turned owner number [] (y ∷ ys) r n e = absurd r
+  equations_turned owner number (x ∷ xs) [] r n e = absurd r
+  equations_turned owner number (x ∷ xs) (y ∷ ys) r n e =
       All-cons (λ equation. is_equation equation ≡ true) y ys
-      (equation_turned owner number x y r.0 n m (All-head (λ equation. is_equation equation ≡ true) x xs e))
-      (equations_turned owner (suc number) xs ys r.1 n m (All-tail (λ equation. is_equation equation ≡ true) x xs e))
+      (equation_turned owner number x y r.0 n (All-head (λ equation. is_equation equation ≡ true) x xs e))
+      (equations_turned owner (suc number) xs ys r.1 n (All-tail (λ equation. is_equation equation ≡ true) x xs e))
 
   starts_turned : (owner : Owner) (number : ℕ) (xs ys : List Equation) → EachEquationTurns new old owner number xs ys → starts_of ys ≡ starts_of xs
   starts_turned owner number [] [] r = refl
@@ -298,12 +298,12 @@ module _ (new old : List ℕ) where
       }
 
   -- the tree is of the form
-  pub form_stays : (owner : Owner) (marks : List Bool) (tree target : Module) → IsForm tree → is_spelled new (module_items tree) ≡ false → is_ascii_text new ≡ true → IsNoMark old
+  pub form_stays : (owner : Owner) (marks : List Bool) (tree target : Module) → IsForm tree → is_spelled new (module_items tree) ≡ false → is_ascii_text new ≡ true
       → EachEquationTurns new old owner 0 tree.equations target.equations → AllRespell new [] marks (module_items tree) (module_items target) → target.tail ≡ tree.tail → IsForm target
-  form_stays owner marks tree target form fresh n m r all tail = record {
+  form_stays owner marks tree target form fresh n r all tail = record {
     trivia = trivia_stay all form.trivia;
     tail = ap is_plain_trivia tail ∙ form.tail;
-    equations = equations_turned owner 0 tree.equations target.equations r n m form.equations;
+    equations = equations_turned owner 0 tree.equations target.equations r n form.equations;
     margins = margins_stay all true (λ e. refl) ∙ form.margins ∙ sym (starts_turned owner 0 tree.equations target.equations r);
     scoped = scoped_turned owner tree.equations target.equations r fresh form.equations form.scoped;
   }

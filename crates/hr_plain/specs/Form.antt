@@ -31,9 +31,15 @@ is_integer_class _ = false
 abbrev pub is_integer : Item → Bool
 is_integer item = is_integer_class item.lexeme.class
 
--- the lexeme of this one character
+-- special characters, and operators that are reserved
+abbrev pub is_reserved_class : Class → Bool
+is_reserved_class Class.Special = true
+is_reserved_class Class.ReservedOp = true
+is_reserved_class _ = false
+
+-- the one of them that is this character
 abbrev pub is_mark : ℕ → Item → Bool
-is_mark c item = pointwise nat_eq item.lexeme.text (c ∷ [])
+is_mark c item = is_reserved_class item.lexeme.class && pointwise nat_eq item.lexeme.text (c ∷ [])
 
 -- what stands between them
 

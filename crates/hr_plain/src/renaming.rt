@@ -4,7 +4,7 @@ ghost use Rattle.hr_plain.specs.Form.{IsPlain};
 ghost use Rattle.hr_plain.specs.Renaming.{IsFound, IsRenamed, IsWhy, NoName, Respelled, is_spelled};
 
 use crate::binding::{occurrences, owner_of};
-use crate::rest::is_variable;
+use crate::lexemes::is_variable;
 use crate::writing::respelled;
 use hr_base::{Items, Place, Pos, Text};
 use hr_lexer::is_varid;

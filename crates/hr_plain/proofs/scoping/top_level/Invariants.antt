@@ -1,0 +1,9 @@
+use Rattle.std.proofs.Common.{◌≡◌, ◌≤◌, true, length, drop}
+use Rattle.hr_plain.specs.Form.{defined_by}
+use Rattle.hr_plain.specs.Sets.{Holds, are_together}
+use Rattle.hr_plain.proofs.scoping.top_level.Given as goal
+
+-- the names of the last equations stand together, and are those of the set
+abbrev pub invariant-while-place : goal.invariant-while-place
+invariant-while-place l =
+    (l.place ≤ length l.equations) × ((are_together (defined_by (drop l.place l.equations)) ≡ true) × Holds l.names (defined_by (drop l.place l.equations)))

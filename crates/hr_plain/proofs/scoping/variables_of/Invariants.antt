@@ -1,0 +1,9 @@
+use Rattle.std.proofs.Common.{◌≡◌, ◌≤◌, true, length, drop}
+use Rattle.hr_plain.specs.Form.{variables_in}
+use Rattle.hr_plain.specs.Sets.{Holds, are_apart}
+use Rattle.hr_plain.proofs.scoping.variables_of.Given as goal
+
+-- the variables among the last patterns differ, and are those of the set
+abbrev pub invariant-while-place : goal.invariant-while-place
+invariant-while-place l =
+    (l.place ≤ length l.patterns) × ((are_apart (variables_in (drop l.place l.patterns)) ≡ true) × Holds l.names (variables_in (drop l.place l.patterns)))
