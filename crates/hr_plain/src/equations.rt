@@ -12,7 +12,10 @@ use std::alloc::{AllocError, Global};
 #[derive(Drop)]
 pub enum Part {
     /// Before its `=`.
-    Left { name: Item, patterns: Seq<Item> },
+    Left {
+        name: Item,
+        patterns: Seq<Item>,
+    },
     /// Behind it.
     Right {
         name: Item,
