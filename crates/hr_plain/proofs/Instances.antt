@@ -10,7 +10,10 @@ use Rattle.hr_plain.specs.declared.binding.Owner.{Owner}
 use Rattle.hr_plain.specs.Scoping.{occurrences_of}
 use Rattle.hr_plain.specs.Form.{IsPlain}
 use Rattle.hr_plain.specs.Target.{RespellsAll}
+use Rattle.hr_plain.proofs.ReadsForm.{marked_are_variables}
+use Rattle.hr_plain.proofs.ReadsTarget.{target_reads}
 
 pub reads_as_target : (bytes : List ℕ) (tree : Module) → IsPlain bytes tree → (owner : Owner) (old new : List ℕ) → IsVarId new → (items : Items)
     → RespellsAll new (occurrences_of owner old tree) (items_of tree) items → LexesText (joined items.list items.tail) items
-reads_as_target bytes tree plain owner old new varid items r = ?
+reads_as_target bytes tree plain owner old new varid items r =
+    target_reads bytes tree plain (occurrences_of owner old tree) (marked_are_variables owner old tree) new varid items r

@@ -8,6 +8,16 @@ mod Marks
 mod Nodes
 mod Parting
 mod Parts
+mod ReadsAlone
+mod ReadsFit
+mod ReadsForm
+mod ReadsKinds
+mod ReadsLexed
+mod ReadsLinks
+mod ReadsNames
+mod ReadsNumbers
+mod ReadsTarget
+mod ReadsTrivia
 mod Refilled
 mod Renames
 mod Respelling
