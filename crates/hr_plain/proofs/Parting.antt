@@ -1,5 +1,5 @@
 -- What stands before a new text, by whether anything stood there and before it.
-use Rattle.std.proofs.Common.{◌≡◌, ℕ, Bool, true, false, ◌==◌, nat_eq, List, [], ◌∷◌, length, sym, subst, true≢false, arith}
+use Rattle.std.proofs.Common.{◌≡◌, ℕ, Bool, true, false, ◌==◌, List, [], ◌∷◌, length, sym, subst, true≢false, arith}
 use Rattle.hr_lexer.specs.Words.{AreApart, Tells}
 use Rattle.hr_plain.specs.Target.{IsParted}
 use Rattle.hr_plain.specs.Target.IsParted.{first, kept, apart, put}

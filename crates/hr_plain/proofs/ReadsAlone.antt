@@ -1,11 +1,11 @@
 -- A number is read as it is alone, where no number goes on into what follows it.
-use Rattle.std.proofs.Common.{◌≡◌, ℕ, suc, ◌+◌, ◌≤◌, ◌||◌, ◌==◌, Bool, true, false, cond, not, List, [], ◌∷◌, ◌++◌, length, take, drop, Option, Some, None, refl, sym, ap, ap₂, ◌∙◌, arith, length-drop}
+use Rattle.std.proofs.Common.{◌≡◌, ℕ, suc, ◌+◌, ◌≤◌, ◌||◌, ◌==◌, Bool, true, false, cond, not, List, [], ◌∷◌, ◌++◌, length, take, drop, Option, Some, None, refl, ap, ap₂, ◌∙◌, arith, length-drop}
 use Rattle.std.specs.List.{prefix_len}
 use Rattle.std.proofs.lemmas.List.{drop-append-le, take-append-le}
 use Rattle.std.proofs.lemmas.List.Sums.{prefix_len-le-length}
 use Rattle.hr_base.specs.declared.lexeme.Class.{Class}
 use Rattle.hr_rules.specs.Letters.{is_in_name}
-use Rattle.hr_rules.specs.Numbers.{is_decimal, is_octal, is_hexadecimal, is_e, is_x, is_o, longest_value}
+use Rattle.hr_rules.specs.Numbers.{is_decimal, is_octal, is_hexadecimal, is_e, is_x, is_o}
 use Rattle.hr_rules.specs.Runs.{stops}
 use Rattle.hr_rules.proofs.Apart.{not_true}
 use Rattle.hr_lexer.specs.declared.numbers.Digits.{Digits}

@@ -1,12 +1,12 @@
 -- A lexeme fits where it is what is read, on the characters of the two texts.
-use Rattle.std.proofs.Common.{◌≡◌, ◌≢◌, ℕ, ◌≤◌, Bool, true, false, cond, ◌&&◌, List, [], ◌∷◌, ◌++◌, length, take, drop, Option, Some, None, refl, sym, ap, subst, ◌∙◌, arith, length-take-le}
+use Rattle.std.proofs.Common.{◌≡◌, ℕ, ◌≤◌, Bool, true, false, cond, ◌&&◌, List, ◌++◌, length, take, drop, Option, Some, None, refl, sym, ap, subst, ◌∙◌, length-take-le}
 use Rattle.std.specs.Option.{is_some}
 use Rattle.std.specs.Str.{chars, is_utf8, IsUtf8}
 use Rattle.std.proofs.Math.Seq.{take-append_seam, drop-append_seam}
 use Rattle.std.proofs.lemmas.Str.{chars-append, chars-encodes, encodes-chars, scalars-chars, IsUtf8-append, IsUtf8-from_is_utf8, is_utf8-from_IsUtf8}
 use lib.Utf8.{scalars, encodes}
 use Rattle.hr_base.specs.declared.lexeme.Class.{Class}
-use Rattle.hr_rules.specs.Lexemes.{spelled_class, spelled_bars, are_utf8, class_of, is_piece, bars}
+use Rattle.hr_rules.specs.Lexemes.{spelled_class, spelled_bars, are_utf8, class_of, bars}
 use Rattle.hr_rules.specs.Lexing.{Fits}
 use Rattle.hr_rules.proofs.Apart.{both_left, both_right, rules_keep_apart}
 use Rattle.hr_rules.proofs.Lexing.{same_lexeme}

@@ -22,7 +22,7 @@ use Rattle.hr_plain.specs.declared.binding.Owner.{Owner}
 use Rattle.hr_plain.specs.Form.{Shape, IsForm, greatest_height, is_ascii_text, is_equation, is_integer, is_integer_class, is_mark, is_pattern, is_plain_trivia, is_plain_variable, is_reserved_class, shape_layer, shape_of}
 use Rattle.hr_plain.specs.Scoping.{equation_marks, is_named, is_same_owner, is_variable, is_variable_class, marks_from, occurrences_of, owner_in}
 use Rattle.hr_plain.proofs.Lengths.{length_equation}
-use Rattle.hr_plain.proofs.ReadsLexed.{IsPlainLexeme, IsPlainItem, ArePlain}
+use Rattle.hr_plain.proofs.ReadsLexed.{IsPlainLexeme, ArePlain}
 use Rattle.hr_plain.proofs.ReadsLexed.IsPlainLexeme.{variable, integer, left, right, equals}
 use Rattle.hr_plain.proofs.ReadsLinks.{OnlyVariables}
 

@@ -1,5 +1,5 @@
 -- Items that lex the text that they join to, and the lexemes of the plain form.
-use Rattle.std.proofs.Common.{◌≡◌, ◌≢◌, ℕ, ◌==◌, Bool, true, false, cond, not, List, [], ◌∷◌, ◌++◌, take, drop, Some, None, refl, sym, ap, subst, ◌∙◌, true≢false, append-nil, take-append-drop}
+use Rattle.std.proofs.Common.{◌≡◌, ◌≢◌, ℕ, ◌==◌, Bool, true, false, cond, List, [], ◌∷◌, ◌++◌, take, drop, Some, refl, sym, ap, subst, ◌∙◌, true≢false, append-nil, take-append-drop}
 use Rattle.std.specs.Prelude.{nat_eq}
 use Rattle.std.specs.List.{AllByRecursion, starts_with}
 use Rattle.std.specs.Str.{chars, IsUtf8}
@@ -11,7 +11,7 @@ use Rattle.hr_base.specs.declared.lexeme.Class.{Class}
 use Rattle.hr_base.specs.declared.lexeme.Item.{Item}
 use Rattle.hr_base.specs.declared.lexeme.Items.{Items}
 use Rattle.hr_rules.specs.declared.character.Kind.{Kind}
-use Rattle.hr_rules.specs.Letters.{kind_of, is_in_name, is_symbol}
+use Rattle.hr_rules.specs.Letters.{kind_of, is_in_name}
 use Rattle.hr_rules.specs.Runs.{stops}
 use Rattle.hr_rules.specs.Lexemes.{class_of, is_piece, bars, byte_order_mark, mark_len, led_by, LexesText}
 use Rattle.hr_rules.specs.Lexing.{Trivia, Fits, Lexes, joined}
@@ -22,7 +22,7 @@ use Rattle.hr_plain.proofs.ReadsAlone.{IsQuiet, Quiet}
 use Rattle.hr_plain.proofs.ReadsAlone.Quiet.{nothing, something}
 use Rattle.hr_plain.proofs.ReadsFit.{Spelled, spelled}
 use Rattle.hr_plain.proofs.ReadsKinds.{Word, word_of, Number, number_of}
-use Rattle.hr_plain.proofs.ReadsNames.{word_begins, number_begins, IsByte, byte_first, left_byte, right_byte, equals_byte}
+use Rattle.hr_plain.proofs.ReadsNames.{word_begins, number_begins, byte_first, left_byte, right_byte, equals_byte}
 use Rattle.hr_plain.proofs.ReadsTrivia.{trivia_utf8, quiet_trivia}
 
 -- ---- the lexemes of the plain form

@@ -1,5 +1,5 @@
 -- What a lexeme looks at behind it stays where items are respelled.
-use Rattle.std.proofs.Common.{◌≡◌, ◌≢◌, ℕ, Bool, true, false, not, List, [], ◌∷◌, ◌++◌, length, Option, Some, refl, sym, ap, subst, ◌∙◌, true≢false, append-nil}
+use Rattle.std.proofs.Common.{◌≡◌, ◌≢◌, ℕ, Bool, true, false, not, List, [], ◌∷◌, ◌++◌, Option, Some, refl, sym, ap, subst, ◌∙◌, true≢false}
 use Rattle.std.specs.Prelude.{⊤}
 use Rattle.std.specs.Str.{chars, IsUtf8}
 use Rattle.std.proofs.lemmas.Str.{IsUtf8-append, IsUtf8-nil, chars-nil}
@@ -8,16 +8,16 @@ use Rattle.hr_base.specs.declared.lexeme.Item.{Item}
 use Rattle.hr_base.specs.declared.lexeme.Items.{Items}
 use Rattle.hr_rules.specs.Letters.{kind_of, is_in_name, is_symbol}
 use Rattle.hr_rules.specs.Runs.{stops}
-use Rattle.hr_rules.specs.Lexemes.{class_of, is_piece, bars, led_by, LexesText}
-use Rattle.hr_rules.specs.Lexing.{Trivia, Fits, Lexes, joined}
+use Rattle.hr_rules.specs.Lexemes.{class_of, is_piece, bars, led_by}
+use Rattle.hr_rules.specs.Lexing.{Trivia, Fits, joined}
 use Rattle.hr_lexer.specs.Words.{AreApart, IsVarId}
 use Rattle.hr_plain.specs.Form.{is_plain_trivia, is_plain_trivia_where}
-use Rattle.hr_plain.specs.Target.{IsParted, Respells, AllRespell}
+use Rattle.hr_plain.specs.Target.{IsParted, AllRespell}
 use Rattle.hr_plain.specs.Target.IsParted.{first, kept, apart, put}
 use Rattle.hr_plain.specs.Target.AllRespell.{none, more}
-use Rattle.hr_plain.proofs.ReadsAlone.{IsQuiet, Quiet, quiet_stops}
+use Rattle.hr_plain.proofs.ReadsAlone.{Quiet, quiet_stops}
 use Rattle.hr_plain.proofs.ReadsAlone.Quiet.{nothing}
-use Rattle.hr_plain.proofs.ReadsFit.{Spelled, spelled}
+use Rattle.hr_plain.proofs.ReadsFit.{spelled}
 use Rattle.hr_plain.proofs.ReadsLexed.{IsPlainLexeme, IsPlainItem, ArePlain, Lexed, lexed, lexed_utf8, quiet_left, quiet_right, quiet_equals, ahead}
 use Rattle.hr_plain.proofs.ReadsLexed.IsPlainLexeme.{variable, integer, left, right, equals}
 use Rattle.hr_plain.proofs.ReadsNames.{word_stops, word_begins, byte_first, space_byte}

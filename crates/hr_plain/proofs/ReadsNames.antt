@@ -1,5 +1,5 @@
 -- Names, parentheses and equals signs are read as before where what follows them begins as before.
-use Rattle.std.proofs.Common.{◌≡◌, ℕ, suc, Bool, true, false, cond, not, ◌&&◌, List, [], ◌∷◌, ◌++◌, length, take, drop, Option, Some, None, refl, sym, ap, subst, ◌∙◌}
+use Rattle.std.proofs.Common.{◌≡◌, ℕ, suc, Bool, true, false, cond, not, ◌&&◌, List, [], ◌∷◌, ◌++◌, length, take, Some, None, refl, sym, ap, ◌∙◌}
 use Rattle.std.specs.List.{list_all, prefix_len}
 use Rattle.std.specs.Str.{chars, IsUtf8}
 use Rattle.std.proofs.Math.Seq.{take-append_seam}
@@ -14,9 +14,8 @@ use Rattle.hr_rules.specs.Runs.{is_run, stops}
 use Rattle.hr_rules.specs.Lexemes.{spelled_class, spelled_class_by, class_of, bars}
 use Rattle.hr_rules.specs.Lexing.{Fits}
 use Rattle.hr_rules.proofs.Apart.{both_left, both_right}
-use Rattle.hr_lexer.specs.declared.taken.Taken.{Taken}
 use Rattle.hr_lexer.specs.LexemeReader.{lexeme_at, lexeme_at_by}
-use Rattle.hr_lexer.specs.NameReader.{word_at, symbols_at}
+use Rattle.hr_lexer.specs.NameReader.{word_at}
 use Rattle.hr_lexer.proofs.Bytes.{none_some}
 use Rattle.hr_lexer.proofs.RunsRead.{one_more, run_len}
 use Rattle.hr_plain.proofs.ReadsFit.{Reads, Spelled, spelled, fits_read, read_fits}

@@ -1,6 +1,6 @@
 -- The text that a renaming writes is read as its target.
 use Rattle.std.proofs.Common.{◌≡◌, ◌≢◌, ℕ, Bool, true, false, List, [], ◌∷◌, ◌++◌, take, drop, Some, refl, sym, ap, subst, ◌∙◌}
-use Rattle.std.specs.Str.{chars, IsUtf8}
+use Rattle.std.specs.Str.{IsUtf8}
 use Rattle.std.proofs.lemmas.Str.{IsUtf8-append}
 use Rattle.hr_base.specs.declared.lexeme.Class.{Class}
 use Rattle.hr_base.specs.declared.lexeme.Item.{Item}
@@ -11,7 +11,7 @@ use Rattle.hr_tree.specs.declared.tree.Module.{Module}
 use Rattle.hr_tree.specs.Yields.{items_of, module_items}
 use Rattle.hr_lexer.specs.Words.{IsVarId}
 use Rattle.hr_plain.specs.Form.{IsPlain, is_plain_trivia}
-use Rattle.hr_plain.specs.Target.{IsParted, Respells, AllRespell, RespellsAll}
+use Rattle.hr_plain.specs.Target.{IsParted, AllRespell, RespellsAll}
 use Rattle.hr_plain.specs.Target.IsParted.{first, kept, apart, put}
 use Rattle.hr_plain.specs.Target.AllRespell.{none, more}
 use Rattle.hr_plain.proofs.ReadsFit.{spelled}

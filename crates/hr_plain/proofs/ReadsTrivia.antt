@@ -1,9 +1,9 @@
 -- What stands between lexemes is read as before, before another lexeme too.
-use Rattle.std.proofs.Common.{◌≡◌, ◌≢◌, ℕ, ◌||◌, ◌&&◌, ◌==◌, ◌⊎◌, inl, inr, Bool, true, false, cond, not, List, [], ◌∷◌, ◌++◌, Some, None, refl, sym, ap, subst, ◌∙◌, true≢false, arith, append_assoc}
+use Rattle.std.proofs.Common.{◌≡◌, ◌≢◌, ℕ, ◌||◌, ◌&&◌, ◌==◌, ◌⊎◌, inl, inr, Bool, true, false, cond, not, List, [], ◌∷◌, ◌++◌, Some, refl, sym, ap, subst, ◌∙◌, true≢false, arith, append_assoc}
 use Rattle.std.specs.List.{list_all}
 use Rattle.std.specs.Str.{chars, is_utf8, IsUtf8}
-use Rattle.std.proofs.lemmas.Str.{chars-append, chars-nil, encodes-chars, scalars-chars, IsUtf8-append, IsUtf8-nil, is_utf8-from_IsUtf8}
-use lib.Utf8.{scalars, encodes}
+use Rattle.std.proofs.lemmas.Str.{chars-append, encodes-chars, scalars-chars, IsUtf8-append, IsUtf8-nil, is_utf8-from_IsUtf8}
+use lib.Utf8.{encodes}
 use Rattle.hr_base.specs.declared.lexeme.Class.{Class}
 use Rattle.hr_rules.specs.declared.character.Kind.{Kind}
 use Rattle.hr_rules.specs.Letters.{kind_of, is_newline}
@@ -17,9 +17,9 @@ use Rattle.hr_rules.proofs.Apart.{both, both_left, both_right, piece_text, piece
 use Rattle.hr_lexer.proofs.Bytes.{none_some, piece_bytes}
 use Rattle.hr_plain.specs.Form.{is_plain_trivia, is_plain_trivia_where}
 use Rattle.hr_plain.proofs.ReadsAlone.{IsQuiet, Quiet}
-use Rattle.hr_plain.proofs.ReadsAlone.Quiet.{nothing, something}
+use Rattle.hr_plain.proofs.ReadsAlone.Quiet.{something}
 use Rattle.hr_plain.proofs.ReadsFit.{Spelled, spelled, bars_spelled}
-use Rattle.hr_plain.proofs.ReadsNames.{linefeed_byte, space_byte, dash_byte, byte_first, IsByte}
+use Rattle.hr_plain.proofs.ReadsNames.{linefeed_byte, space_byte, dash_byte, byte_first}
 
 pub trivia_utf8 : {t a : List ℕ} → Trivia is_piece t a → IsUtf8 t
 trivia_utf8 (none a) = IsUtf8-nil

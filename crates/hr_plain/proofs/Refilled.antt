@@ -11,7 +11,7 @@ use Rattle.hr_tree.specs.Yields.{greatest, height_of, yield_of}
 use Rattle.hr_tree.proofs.Trees.{yield_variable, yield_integer, yield_group, yield_apply}
 use Rattle.hr_plain.specs.Scoping.{is_named, is_variable, is_variable_class}
 use Rattle.hr_plain.specs.Form.{Shape, is_ascii_text, is_integer, is_integer_class, is_mark, is_plain_variable, is_reserved_class, shape_of}
-use Rattle.hr_plain.proofs.Turned.{Turns, EachTurns, is_itself, same_text, text_of_unnamed, variable_stays}
+use Rattle.hr_plain.proofs.Turned.{Turns, EachTurns, text_of_unnamed, variable_stays}
 use Rattle.hr_plain.proofs.Nodes.{by_parts, shape_variable, shape_integer, shape_group, shape_apply, height_variable, height_integer, height_group, height_apply}
 
 pub both_left : (a b : Bool) → (a && b) ≡ true → a ≡ true

@@ -1,5 +1,5 @@
 -- What a renaming writes is the text of its target.
-use Rattle.std.proofs.Common.{◌≡◌, ◌≢◌, ℕ, ◌≤◌, Bool, true, false, List, [], ◌∷◌, length, Option, Some, slice_get, refl, sym, ap, ap₂, ◌∙◌, subst}
+use Rattle.std.proofs.Common.{◌≡◌, ℕ, ◌≤◌, true, false, List, [], length, sym, ap, subst}
 use Rattle.hr_base.specs.declared.place.Pos.{Pos}
 use Rattle.hr_base.specs.declared.lexeme.Item.{Item}
 use Rattle.hr_base.specs.declared.lexeme.Items.{Items}
@@ -9,11 +9,10 @@ use Rattle.hr_lexer.specs.Words.{IsVarId}
 use Rattle.hr_tree.specs.declared.tree.Module.{Module}
 use Rattle.hr_tree.specs.Yields.{items_of, module_items}
 use Rattle.hr_plain.specs.declared.binding.Owner.{Owner}
-use Rattle.hr_plain.specs.Scoping.{is_variable}
 use Rattle.hr_plain.specs.Binders.{binders_of}
 use Rattle.hr_plain.specs.Form.{IsForm, IsPlain, is_ascii_text}
 use Rattle.hr_plain.specs.Target.{AllRespell}
-use Rattle.hr_plain.specs.Renaming.{IsFound, IsNameAt, IsRenamed, IsTarget, Respelled, is_spelled, module_limit, owner_at}
+use Rattle.hr_plain.specs.Renaming.{IsFound, IsNameAt, IsRenamed, Respelled, is_spelled, module_limit, owner_at}
 use Rattle.hr_plain.proofs.TargetTree.{each_marked, equations_taken}
 use Rattle.hr_plain.proofs.SameBinders.{binders_stay}
 use Rattle.hr_plain.proofs.SameForm.{form_stays}

@@ -10,7 +10,7 @@ use Rattle.hr_plain.specs.declared.binding.Owner.{Owner}
 use Rattle.hr_plain.specs.Scoping.{binds, is_named, is_same_owner, owner_in}
 use Rattle.hr_plain.specs.Binders.{binder_of, binders_from, defined_from, equation_binders, named_from}
 use Rattle.hr_plain.specs.Renaming.{is_spelled}
-use Rattle.hr_plain.proofs.Turned.{turned, Turns, EachTurns, binder_turned, binders_turned, each_turns_either_way, length_turned, named_from-turned, named_turned, neither_left, neither_right, none_left, none_right, same_text, unmoved}
+use Rattle.hr_plain.proofs.Turned.{turned, binder_turned, binders_turned, each_turns_either_way, length_turned, named_from-turned, named_turned, neither_left, neither_right, none_left, none_right, same_text, unmoved}
 use Rattle.hr_plain.proofs.TargetTree.{EquationTurns, EachEquationTurns}
 
 -- a name that may be bound in two places means what it meant, where the first place binds it or both turn

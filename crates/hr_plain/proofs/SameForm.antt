@@ -1,5 +1,5 @@
 -- The target of a renaming in a module of the plain form is of the plain form.
-use Rattle.std.proofs.Common.{◌≡◌, ℕ, ◌+◌, suc, Bool, true, false, not, ◌&&◌, ◌||◌, nat_eq, nat_le, if◌then◌else◌, Option, Some, None, List, [], ◌∷◌, ◌++◌, length, map, All, refl, sym, ap, ap₂, ◌∙◌, subst, true≢false, arith, length-append}
+use Rattle.std.proofs.Common.{◌≡◌, ℕ, ◌+◌, suc, Bool, true, false, not, ◌&&◌, ◌||◌, nat_eq, nat_le, None, List, [], ◌∷◌, ◌++◌, length, map, All, refl, sym, ap, ap₂, ◌∙◌, subst, true≢false, arith, length-append}
 use Rattle.std.specs.List.{flat_map, list_all, list_any, last_or, IsDistinct}
 use Rattle.std.specs.Cmp.Lexicographic.{pointwise}
 use Rattle.std.proofs.lemmas.List.Elements.{All-nil, All-cons, All-head, All-tail, All-map, All-weaker}
@@ -13,7 +13,7 @@ use Rattle.hr_plain.specs.Renaming.{is_spelled}
 use Rattle.hr_plain.specs.Target.{AllRespell, IsParted, Respells}
 use Rattle.hr_plain.specs.Target.AllRespell.{none, more}
 use Rattle.hr_plain.specs.Target.IsParted.{first, kept, apart, put}
-use Rattle.hr_plain.specs.Form.{AreTogether, IsForm, IsScoped, defined_by, ends_line, equation_starts, greatest_height, is_ascii_text, is_at_margin, is_bound, is_equation, is_integer, is_mark, is_pattern, is_plain_trivia, is_plain_trivia_where, is_plain_variable, is_same_text, margins_where, shape_of, starts_of, variables_in}
+use Rattle.hr_plain.specs.Form.{AreTogether, IsForm, IsScoped, defined_by, ends_line, greatest_height, is_ascii_text, is_at_margin, is_bound, is_equation, is_integer, is_mark, is_pattern, is_plain_trivia, is_plain_trivia_where, is_plain_variable, is_same_text, margins_where, shape_of, starts_of, variables_in}
 use Rattle.hr_plain.proofs.Turned.{turned, Turns, EachTurns, among_turned, any_named-turned, distinct_turned, each_turns_either_way, fresh_variables, is_itself, length_turned, neither_left, neither_right, none_right, same_text, same_turned, text_of_variable, variable_stays, variables_turned}
 use Rattle.hr_plain.proofs.Refilled.{both, both_left, both_right, integer_turned, plain_turned}
 use Rattle.hr_plain.proofs.TargetTree.{EquationTurns, EachEquationTurns}

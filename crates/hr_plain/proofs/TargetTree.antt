@@ -1,8 +1,7 @@
 -- The target of a renaming is a tree: one with its items, of which each equation comes from one.
-use Rattle.std.proofs.Common.{◌≡◌, ℕ, suc, Bool, true, false, ◌&&◌, if◌then◌else◌, List, [], ◌∷◌, ◌++◌, map, refl, sym, ap, ap₂, ◌∙◌, subst, true≢false, append_assoc}
+use Rattle.std.proofs.Common.{◌≡◌, ℕ, suc, Bool, true, false, ◌&&◌, if◌then◌else◌, List, [], ◌∷◌, ◌++◌, map, refl, sym, ap, ◌∙◌, subst, true≢false, append_assoc}
 use Rattle.std.specs.List.{flat_map}
 use Rattle.hr_base.specs.declared.lexeme.Item.{Item}
-use Rattle.hr_tree.specs.declared.tree.Exp.{Exp}
 use Rattle.hr_tree.specs.declared.tree.Equation.{Equation}
 use Rattle.hr_tree.specs.Yields.{equation_items, yield_of}
 use Rattle.hr_plain.specs.declared.binding.Owner.{Owner}
