@@ -1,7 +1,9 @@
 mod Atoms
 mod Lengths
+mod Loaded
 mod Marks
 mod Respelling
+mod Together
 mod Basics
 mod Blanks
 mod Heights
