@@ -4,6 +4,7 @@ mod Blanks
 mod Heights
 mod Instances
 mod Lengths
+mod Loaded
 mod Marks
 mod Nodes
 mod Parting
@@ -24,4 +25,5 @@ mod Respelling
 mod SameBinders
 mod SameForm
 mod TargetTree
+mod Together
 mod Turned

@@ -353,3 +353,19 @@ form_read (next ∷ equations) are m =
     ap (option_and_then (λ n. option_map (in_front n.0) (equations_from (Some n.1) (behind_name next ++ flat_map equation_items equations)))) one
     ∙ nothing_in_front (equations_from (Some (Part.Left next.name [])) (behind_name next ++ flat_map equation_items equations))
     ∙ inside.0 ∙ behind_read read.0 next equations read.1.ends (both_right (is_equation next) (list_all is_equation equations) are) inside.1
+
+-- the code's loop
+
+front_moves : (list longer : List Equation) (ended : Option Equation) (o : Option (List Equation)) → longer ≡ list ++ option_to_list ended
+    → option_map (λ found. longer ++ found) o ≡ option_map (λ found. list ++ found) (option_map (in_front ended) o)
+front_moves list longer ended None e = refl
+front_moves list longer ended (Some found) e = ap Some (ap (λ l. l ++ found) e ∙ append_assoc list (option_to_list ended) found)
+
+-- what has ended before an item is put behind the others
+pub loop_moves : (list longer : List Equation) (part : Option Part) (item : Item) (before after : List Item) (ended : Option Equation) (next : Part) (answer : Option (List Equation))
+    → before ≡ item ∷ after → step part item ≡ Some (ended, next) → longer ≡ list ++ option_to_list ended
+    → option_map (λ found. list ++ found) (equations_from part before) ≡ answer → option_map (λ found. longer ++ found) (equations_from (Some next) after) ≡ answer
+loop_moves list longer part item before after ended next answer b s l h =
+    front_moves list longer ended (equations_from (Some next) after) l
+    ∙ ap (option_map (λ found. list ++ found)) (sym (ap (option_and_then (λ n. option_map (in_front n.0) (equations_from (Some n.1) after))) s))
+    ∙ ap (λ items. option_map (λ found. list ++ found) (equations_from part items)) (sym b) ∙ h

@@ -1,6 +1,6 @@
-ghost use Rattle.std.specs.Prelude.{IfErr, IfOk};
+ghost use Rattle.std.specs.Prelude.{◌≡◌, IfErr, IfOk};
 ghost use Rattle.hr_plain.specs.Form.{IsPlain};
-ghost use Rattle.hr_plain.specs.Refusals.{IsLoadRefusal};
+ghost use Rattle.hr_plain.specs.Refusals.{IsLoadRefusal, unread};
 
 use crate::equations::equations;
 use crate::scoping::are_scoped;
@@ -30,7 +30,9 @@ fn not_built() -> LoadError
 }
 
 /// The lexer's refusal of the one text.
-fn unread(error: LexError) -> LoadError {
+fn unread(error: LexError) -> LoadError
+    ensures { result ≡ unread error }
+{
     match error {
         LexError::Memory(error) => LoadError::Memory(error),
         error => LoadError::Lex { text: 0, error },

@@ -45,9 +45,10 @@ fn top_level(alloc: Global, equations: &[Equation]) -> Result<Option<Names>, All
     let mut names = BTreeSet::new(alloc);
     let mut place = equations.len();
     while place > 0 {
-        let follows = defines(equations, place, &equations[place - 1]);
         place -= 1;
-        let is_new = add(&mut names, &equations[place].name.lexeme.text)?;
+        let equation = &equations[place];
+        let follows = defines(equations, place + 1, equation);
+        let is_new = add(&mut names, &equation.name.lexeme.text)?;
         if !either(is_new, follows) {
             return Ok(None);
         }
@@ -76,10 +77,17 @@ fn add(names: &mut Names, text: &Text) -> Result<bool, AllocError>
     ensures fresh { IfOk result (λ is_new. is_new ≡ not (spec.has names.old text.now)) }
     ensures holds { OnOk result ((texts : List (List ℕ)) → spec.Holds names.old texts → spec.Holds names.new (text.now ∷ texts)) }
 {
-    match names.insert(text.clone()?) {
-        Ok(is_new) => Ok(is_new),
-        Err(_) => Err(AllocError),
-    }
+    let is_new = match names.insert(copy_of(text)?) {
+        Ok(is_new) => is_new,
+        Err(_) => return Err(AllocError),
+    };
+    Ok(is_new)
+}
+
+fn copy_of(text: &Text) -> Result<Text, AllocError>
+    ensures { IfOk result (λ copy. copy ≡ text.now) }
+{
+    text.clone()
 }
 
 /// Whether each name in the equation's body is one of its variables or of the set, and each of its
@@ -101,7 +109,9 @@ fn variables_of(alloc: Global, patterns: &[Item]) -> Result<Option<Names>, Alloc
     let mut place = patterns.len();
     while place > 0 {
         place -= 1;
-        if !add_variable(&mut names, &patterns[place])? {
+        let pattern = &patterns[place];
+        let is_new = add_variable(&mut names, pattern)?;
+        if !is_new {
             return Ok(None);
         }
     }
