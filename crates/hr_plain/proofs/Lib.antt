@@ -1,6 +1,14 @@
+mod Atoms
+mod Basics
+mod Blanks
+mod Heights
+mod Instances
 mod Lengths
+mod Loaded
 mod Marks
+mod Nodes
 mod Parting
+mod Parts
 mod ReadsAlone
 mod ReadsFit
 mod ReadsForm
@@ -11,4 +19,11 @@ mod ReadsNames
 mod ReadsNumbers
 mod ReadsTarget
 mod ReadsTrivia
+mod Refilled
+mod Renames
 mod Respelling
+mod SameBinders
+mod SameForm
+mod TargetTree
+mod Together
+mod Turned

@@ -19,7 +19,7 @@ use Rattle.hr_tree.specs.declared.tree.Module.{Module}
 use Rattle.hr_tree.specs.Yields.{equation_items, height_of, module_items, yield_of}
 use Rattle.hr_tree.proofs.Trees.{yield_variable, yield_integer, yield_group, yield_apply}
 use Rattle.hr_plain.specs.declared.binding.Owner.{Owner}
-use Rattle.hr_plain.specs.Form.{Shape, IsForm, greatest_height, is_ascii_text, is_equation, is_integer, is_integer_class, is_mark, is_pattern, is_plain_trivia, is_plain_variable, shape_layer, shape_of}
+use Rattle.hr_plain.specs.Form.{Shape, IsForm, greatest_height, is_ascii_text, is_equation, is_integer, is_integer_class, is_mark, is_pattern, is_plain_trivia, is_plain_variable, is_reserved_class, shape_layer, shape_of}
 use Rattle.hr_plain.specs.Scoping.{equation_marks, is_named, is_same_owner, is_variable, is_variable_class, marks_from, occurrences_of, owner_in}
 use Rattle.hr_plain.proofs.Lengths.{length_equation}
 use Rattle.hr_plain.proofs.ReadsLexed.{IsPlainLexeme, ArePlain}
@@ -68,7 +68,8 @@ plain_integer : (item : Item) → is_integer item ≡ true → IsPlainLexeme ite
 plain_integer item e = integer (is_number item.lexeme.class e)
 
 mark_text : (c : ℕ) (item : Item) → is_mark c item ≡ true → item.lexeme.text ≡ c ∷ []
-mark_text c item e = (bytes_eq-Decides item.lexeme.text (c ∷ [])).0 e
+mark_text c item e =
+    (bytes_eq-Decides item.lexeme.text (c ∷ [])).0 (both_right (is_reserved_class item.lexeme.class) (pointwise nat_eq item.lexeme.text (c ∷ [])) e)
 
 plain_pattern : (item : Item) (b : Bool) → is_plain_variable item ≡ b → (b || is_integer item) ≡ true → IsPlainLexeme item
 plain_pattern item true v e = plain_variable item v

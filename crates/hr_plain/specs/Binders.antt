@@ -1,8 +1,8 @@
 -- The lexeme that each name of a module is bound to (Haskell 98 Report, sections 3.2, 4.4.3 and 4.5.1): a
 -- variable among an equation's patterns is bound there, as are the names in its body that are spelled like
 -- it; every other name is bound where it is first defined.
-use Rattle.std.specs.Prelude.{ℕ, ◌+◌, Bool, true, false, ◌==◌, nat_eq, List, [], ◌∷◌, ◌++◌, length, map, if◌then◌else◌, Option, Some, None}
-use Rattle.std.specs.Option.{option_map, option_or}
+use Rattle.std.specs.Prelude.{ℕ, ◌+◌, List, [], ◌∷◌, ◌++◌, length, map, if◌then◌else◌, Option, Some, None}
+use Rattle.std.specs.Option.{option_or}
 use Rattle.hr_base.specs.declared.lexeme.Item.{Item}
 use Rattle.hr_tree.specs.declared.tree.Equation.{Equation}
 use Rattle.hr_tree.specs.declared.tree.Module.{Module}

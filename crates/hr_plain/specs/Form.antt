@@ -3,7 +3,6 @@
 use Rattle.std.specs.Prelude.{◌≡◌, ℕ, Bool, true, false, not, ◌&&◌, ◌||◌, ◌==◌, nat_eq, nat_le, nat_lt, List, [], ◌∷◌, ◌++◌, length, map, All, if◌then◌else◌, Option, Some, None}
 use Rattle.std.specs.List.{IsDistinct, filter, flat_map, last_or, list_all, list_any}
 use Rattle.std.specs.Cmp.Lexicographic.{pointwise}
-
 use Rattle.hr_base.specs.declared.lexeme.Class.{Class}
 use Rattle.hr_base.specs.declared.lexeme.Item.{Item}
 use Rattle.hr_rules.specs.Letters.{is_newline}
@@ -32,9 +31,15 @@ is_integer_class _ = false
 abbrev pub is_integer : Item → Bool
 is_integer item = is_integer_class item.lexeme.class
 
--- the lexeme of this one character
+-- special characters, and operators that are reserved
+abbrev pub is_reserved_class : Class → Bool
+is_reserved_class Class.Special = true
+is_reserved_class Class.ReservedOp = true
+is_reserved_class _ = false
+
+-- the one of them that is this character
 abbrev pub is_mark : ℕ → Item → Bool
-is_mark c item = pointwise nat_eq item.lexeme.text (c ∷ [])
+is_mark c item = is_reserved_class item.lexeme.class && pointwise nat_eq item.lexeme.text (c ∷ [])
 
 -- what stands between them
 

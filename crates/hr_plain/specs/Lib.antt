@@ -4,4 +4,5 @@ pub mod Reading
 pub mod Refusals
 pub mod Renaming
 pub mod Scoping
+pub mod Sets
 pub mod Target

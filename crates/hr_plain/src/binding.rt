@@ -3,7 +3,7 @@ ghost use Rattle.hr_tree.specs.Yields.{equation_items, yield_of};
 ghost use Rattle.hr_plain.specs.Renaming.{owner_at, owner_within};
 ghost use Rattle.hr_plain.specs.Scoping as spec;
 
-use crate::rest::is_variable;
+use crate::lexemes::is_variable;
 use hr_base::{Item, Text};
 use hr_tree::{Equation, Exp, Module};
 use std::alloc::{AllocError, Global};

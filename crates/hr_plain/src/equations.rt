@@ -1,77 +1,216 @@
-ghost use Rattle.std.specs.Prelude.{◌<◌, length, OnOk};
+ghost use Rattle.std.specs.Prelude.{◌≡◌, ◌++◌, IfOk, OnOk};
+ghost use Rattle.std.specs.Option.{option_to_list};
+ghost use Rattle.hr_plain.specs.Reading as spec;
 
-use crate::expressions::{HEIGHT_LIMIT, Tall, expression};
-use crate::loading::{LoadError, not_built};
-use crate::rest::{Rest, is_integer, is_mark, is_plain_variable};
-use crate::starts::starts;
+use crate::expressions::{Body, HEIGHT_LIMIT, body_end, body_with, is_within, nothing_read};
+use crate::lexemes::{is_at_margin, is_mark, is_pattern, is_plain_variable};
 use hr_base::{Item, Seq};
-use hr_tree::Equation;
-use std::alloc::Global;
-use std::mem;
+use hr_tree::{Equation, Exp};
+use std::alloc::{AllocError, Global};
 
-/// The equations that the items are, one part after another: each begins with a line-first lexeme at
-/// column 1, and no other line-first lexeme stands there.
-pub fn equations(alloc: Global, items: Vec<Item>) -> Result<Seq<Equation>, LoadError> {
-    let starts = starts(alloc, items.as_slice()).map_err(LoadError::Memory)?;
-    let mut list = Vec::new(alloc);
-    let mut part = Vec::new(alloc);
-    for (item, begins) in items.into_iter().zip(starts) {
-        if begins && !part.is_empty() {
-            let whole = mem::replace(&mut part, Vec::new(alloc));
-            list.push(equation(alloc, whole)?)?;
-        } else if !begins && part.is_empty() {
-            return Err(not_built());
-        }
-        part.push(item)?;
-    }
-    if !part.is_empty() {
-        list.push(equation(alloc, part)?)?;
-    }
-    Ok(Seq { list })
+/// An equation of which items are still to come.
+#[derive(Drop)]
+pub enum Part {
+    /// Before its `=`.
+    Left {
+        name: Item,
+        patterns: Seq<Item>,
+    },
+    /// Behind it.
+    Right {
+        name: Item,
+        patterns: Seq<Item>,
+        equals: Item,
+        body: Body,
+    },
 }
 
-/// The equation that the items are.
-fn equation(alloc: Global, items: Vec<Item>) -> Result<Equation, LoadError> {
-    let mut rest = Rest::new(items);
-    let name = expect(&mut rest, is_plain_variable)?;
-    let mut patterns = Vec::new(alloc);
-    'patterns: while rest.peek().is_some_and(is_pattern) {
-        patterns.push(expect(&mut rest, is_pattern)?)?;
-    }
-    let equals = expect(&mut rest, is_equals)?;
-    let Tall { exp, height } = expression(alloc, &mut rest, HEIGHT_LIMIT)?;
-    if height > HEIGHT_LIMIT || !rest.is_empty() {
-        return Err(not_built());
-    }
-    Ok(Equation {
-        name,
-        patterns: Seq { list: patterns },
-        equals,
-        body: exp,
-    })
-}
-
-fn is_pattern(item: &Item) -> bool {
-    is_plain_variable(item) || is_integer(item)
-}
-
-fn is_equals(item: &Item) -> bool {
-    is_mark(item, b'=')
-}
-
-/// The next item, which has to meet the test.
-fn expect<F: FnOnce(&Item) -> bool + Drop>(rest: &mut Rest, test: F) -> Result<Item, LoadError>
-    requires { F.IsAlwaysCallable test }
-    ensures { OnOk result (length rest.new < length rest.old) }
+/// The equations that the items are; each begins at the margin, and no other item stands there.
+pub fn equations(alloc: Global, items: Vec<Item>) -> Result<Option<Seq<Equation>>, AllocError>
+    ensures { IfOk result (λ found. found ≡ spec.equations_of items.items) }
 {
-    match rest.take() {
-        Some(item) => {
-            if test(&item) {
-                Ok(item)
+    let mut list = Vec::new(alloc);
+    let mut part = None;
+    for item in items {
+        match step(alloc, part, item)? {
+            Some((ended, next)) => {
+                push_ended(&mut list, ended)?;
+                part = Some(next);
+            }
+            None => return Ok(None),
+        }
+    }
+    match last_of(part) {
+        Some(last) => {
+            push_ended(&mut list, last)?;
+            Ok(Some(Seq { list }))
+        }
+        None => Ok(None),
+    }
+}
+
+/// Puts the equation, if there is one, behind the others.
+fn push_ended(list: &mut Vec<Equation>, ended: Option<Equation>) -> Result<(), AllocError>
+    ensures { OnOk result (list.new.items ≡ list.old.items ++ option_to_list ended) }
+{
+    match ended {
+        Some(equation) => {
+            list.push(equation)?;
+            Ok(())
+        }
+        None => Ok(()),
+    }
+}
+
+/// The equation that ends before the item, if one does, and the part that the item is of; none where
+/// no text of the form goes on so.
+fn step(
+    alloc: Global,
+    part: Option<Part>,
+    item: Item,
+) -> Result<Option<(Option<Equation>, Part)>, AllocError>
+    ensures { IfOk result (λ found. found ≡ spec.step part item) }
+{
+    match part {
+        None => {
+            if is_at_margin(&item, true) {
+                Ok(begun_behind(alloc, None, item))
             } else {
-                Err(not_built())
+                Ok(None)
             }
         }
-        None => Err(not_built()),
+        Some(part) => {
+            if is_at_margin(&item, false) {
+                match part_end(part) {
+                    Some(equation) => Ok(begun_behind(alloc, Some(equation), item)),
+                    None => Ok(None),
+                }
+            } else {
+                match part_with(alloc, part, item)? {
+                    Some(longer) => Ok(Some((None, longer))),
+                    None => Ok(None),
+                }
+            }
+        }
+    }
+}
+
+/// The part that the item begins, behind the equation.
+fn begun_behind(
+    alloc: Global,
+    ended: Option<Equation>,
+    name: Item,
+) -> Option<(Option<Equation>, Part)>
+    ensures { result ≡ spec.begun_behind ended name }
+{
+    if is_plain_variable(&name) {
+        let patterns = Seq {
+            list: Vec::new(alloc),
+        };
+        Some((ended, Part::Left { name, patterns }))
+    } else {
+        None
+    }
+}
+
+/// The part with the next item.
+fn part_with(alloc: Global, part: Part, item: Item) -> Result<Option<Part>, AllocError>
+    ensures { IfOk result (λ found. found ≡ spec.part_with part item) }
+{
+    match part {
+        Part::Left { name, patterns } => left_with(alloc, name, patterns, item),
+        Part::Right {
+            name,
+            patterns,
+            equals,
+            body,
+        } => match body_with(alloc, body, item)? {
+            Some(body) => Ok(Some(Part::Right {
+                name,
+                patterns,
+                equals,
+                body,
+            })),
+            None => Ok(None),
+        },
+    }
+}
+
+fn left_with(
+    alloc: Global,
+    name: Item,
+    patterns: Seq<Item>,
+    item: Item,
+) -> Result<Option<Part>, AllocError>
+    ensures { IfOk result (λ found. found ≡ spec.left_with name patterns item) }
+{
+    if is_pattern(&item) {
+        let mut patterns = patterns;
+        patterns.list.push(item)?;
+        return Ok(Some(Part::Left { name, patterns }));
+    }
+    if is_mark(&item, b'=') {
+        return Ok(Some(Part::Right {
+            name,
+            patterns,
+            equals: item,
+            body: nothing_read(alloc),
+        }));
+    }
+    Ok(None)
+}
+
+/// The equation that the part is.
+fn part_end(part: Part) -> Option<Equation>
+    ensures { result ≡ spec.part_end part }
+{
+    match part {
+        Part::Left {
+            name: _,
+            patterns: _,
+        } => None,
+        Part::Right {
+            name,
+            patterns,
+            equals,
+            body,
+        } => match limited(body) {
+            Some(body) => Some(Equation {
+                name,
+                patterns,
+                equals,
+                body,
+            }),
+            None => None,
+        },
+    }
+}
+
+/// The expression, where no more nodes than the limit stand in one another.
+fn limited(body: Body) -> Option<Exp>
+    ensures { result ≡ spec.limited_end body }
+{
+    match body_end(body) {
+        Some(exp) => {
+            if is_within(&exp, HEIGHT_LIMIT) {
+                Some(exp)
+            } else {
+                None
+            }
+        }
+        None => None,
+    }
+}
+
+/// The last equation, if there is a part.
+fn last_of(part: Option<Part>) -> Option<Option<Equation>>
+    ensures { result ≡ spec.last_of part }
+{
+    match part {
+        Some(part) => match part_end(part) {
+            Some(equation) => Some(Some(equation)),
+            None => None,
+        },
+        None => Some(None),
     }
 }

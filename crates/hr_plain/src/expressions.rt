@@ -1,100 +1,173 @@
-ghost use Rattle.std.specs.Prelude.{◌<◌, ◌≤◌, length, OnOk};
+ghost use Rattle.std.specs.Prelude.{◌≡◌, IfOk, nat_le};
+ghost use Rattle.hr_tree.specs.Yields.{height_of};
+ghost use Rattle.hr_plain.specs.Reading as spec;
 
-use crate::loading::{LoadError, not_built};
-use crate::rest::{Rest, is_integer, is_mark, is_plain_variable};
-use hr_base::Item;
+use crate::lexemes::{is_integer, is_mark, is_plain_variable};
+use hr_base::{Item, Seq};
 use hr_tree::Exp;
 use sqlite_items::{Boxed, Items as Children};
-use std::alloc::Global;
+use std::alloc::{AllocError, Global};
 
 /// How many nodes may stand in one another in the body of an equation: the body is at nesting 3,
 /// and none is above 256.
 pub const HEIGHT_LIMIT: u32 = 254;
 
-/// An expression, and how many nodes stand in one another in it.
+/// How many parentheses may be open.
+const OPEN_LIMIT: usize = 254;
+
+/// An expression of which items are still to come.
 #[derive(Drop)]
-pub struct Tall {
-    pub exp: Exp,
-    pub height: u32,
+pub struct Body {
+    /// The atoms behind the innermost open parenthesis.
+    pub atoms: Children<Exp>,
+    /// What is outside of each open parenthesis, the innermost last.
+    pub outer: Seq<Outer>,
 }
 
-/// The expression that the next items make, up to the end or to a `)`. At most `depth` parentheses
-/// stand in one another in it.
-#[cycle(expressions)]
-pub fn expression(alloc: Global, rest: &mut Rest, depth: u32) -> Result<Tall, LoadError>
-    ensures { length rest.new ≤ length rest.old }
+/// An open parenthesis, and the atoms just before it.
+#[derive(Drop)]
+pub struct Outer {
+    pub atoms: Children<Exp>,
+    pub left: Item,
+}
+
+/// An expression of which no item has been read.
+pub fn nothing_read(alloc: Global) -> Body
+    ensures { result ≡ spec.nothing_read }
 {
-    let mut atoms = Children::new(alloc);
-    let mut height = 0;
-    'atoms: while rest.peek().is_some_and(begins_atom) {
-        let atom = atom(alloc, rest, depth)?;
-        height = atom.height.max(height);
-        let Tall { exp, height: _ } = atom;
-        atoms.push(exp).map_err(LoadError::Memory)?;
+    Body {
+        atoms: Children::new(alloc),
+        outer: Seq {
+            list: Vec::new(alloc),
+        },
     }
+}
+
+/// The expression with the next item; none where none goes on so.
+pub fn body_with(alloc: Global, body: Body, item: Item) -> Result<Option<Body>, AllocError>
+    ensures { IfOk result (λ found. found ≡ spec.body_with body item) }
+{
+    if is_plain_variable(&item) {
+        return Ok(Some(with_atom(body, Exp::Variable(item))?));
+    }
+    if is_integer(&item) {
+        return Ok(Some(with_atom(body, Exp::Integer(item))?));
+    }
+    if is_mark(&item, b'(') {
+        return opened(alloc, body, item);
+    }
+    if is_mark(&item, b')') {
+        return closed(alloc, body, item);
+    }
+    Ok(None)
+}
+
+fn with_atom(body: Body, atom: Exp) -> Result<Body, AllocError>
+    ensures { IfOk result (λ longer. longer ≡ spec.with_atom body atom) }
+{
+    let Body { mut atoms, outer } = body;
+    atoms.push(atom)?;
+    Ok(Body { atoms, outer })
+}
+
+/// The expression with a `(`.
+fn opened(alloc: Global, body: Body, left: Item) -> Result<Option<Body>, AllocError>
+    ensures { IfOk result (λ found. found ≡ spec.opened body left) }
+{
+    let Body { atoms, mut outer } = body;
+    if outer.list.len() < OPEN_LIMIT {
+        outer.list.push(Outer { atoms, left })?;
+        Ok(Some(Body {
+            atoms: Children::new(alloc),
+            outer,
+        }))
+    } else {
+        Ok(None)
+    }
+}
+
+/// The expression with a `)`.
+fn closed(alloc: Global, body: Body, right: Item) -> Result<Option<Body>, AllocError>
+    ensures { IfOk result (λ found. found ≡ spec.closed body right) }
+{
+    let Body { atoms, outer } = body;
+    match split_last(outer) {
+        Some((outer, last)) => match joined(atoms) {
+            Some(inner) => Ok(Some(grouped(alloc, outer, last, right, inner)?)),
+            None => Ok(None),
+        },
+        None => Ok(None),
+    }
+}
+
+/// All but the innermost one, and that.
+#[tactic(auto, using(crate::proofs::Basics::split_more))]
+fn split_last(outer: Seq<Outer>) -> Option<(Seq<Outer>, Outer)>
+    ensures { result ≡ spec.split_last outer }
+{
+    let mut outer = outer;
+    match outer.list.pop() {
+        Some(last) => Some((outer, last)),
+        None => None,
+    }
+}
+
+fn grouped(
+    alloc: Global,
+    outer: Seq<Outer>,
+    last: Outer,
+    right: Item,
+    inner: Exp,
+) -> Result<Body, AllocError>
+    ensures { IfOk result (λ body. body ≡ spec.grouped outer last right inner) }
+{
+    let Outer { mut atoms, left } = last;
+    atoms.push(Exp::Group(left, Boxed::new(alloc, inner)?, right))?;
+    Ok(Body { atoms, outer })
+}
+
+/// The expression of these atoms.
+fn joined(atoms: Children<Exp>) -> Option<Exp>
+    ensures { result ≡ spec.joined atoms }
+{
     if atoms.len() > 1 {
-        return Ok(Tall {
-            exp: Exp::Apply(atoms),
-            height: height.saturating_add(1),
-        });
+        return Some(Exp::Apply(atoms));
     }
-    match atoms.pop() {
-        Some(exp) => Ok(Tall { exp, height }),
-        None => Err(not_built()),
-    }
+    let mut atoms = atoms;
+    atoms.pop()
 }
 
-fn begins_atom(item: &Item) -> bool {
-    is_plain_variable(item) || is_integer(item) || is_mark(item, b'(')
-}
-
-/// The atom that the next item begins.
-#[cycle(expressions)]
-fn atom(alloc: Global, rest: &mut Rest, depth: u32) -> Result<Tall, LoadError>
-    ensures goes_on { OnOk result (length rest.new < length rest.old) }
-    ensures no_more { length rest.new ≤ length rest.old }
+/// The expression, where no parenthesis is open.
+pub fn body_end(body: Body) -> Option<Exp>
+    ensures { result ≡ spec.body_end body }
 {
-    let Some(first) = rest.take() else {
-        return Err(not_built());
-    };
-    if is_plain_variable(&first) {
-        return Ok(Tall {
-            exp: Exp::Variable(first),
-            height: 1,
-        });
+    let Body { atoms, outer } = body;
+    if outer.list.is_empty() {
+        joined(atoms)
+    } else {
+        None
     }
-    if is_integer(&first) {
-        return Ok(Tall {
-            exp: Exp::Integer(first),
-            height: 1,
-        });
-    }
-    group(alloc, first, rest, depth)
 }
 
-/// The expression in parentheses of which `open` is the first.
-#[cycle(expressions)]
-fn group(alloc: Global, open: Item, rest: &mut Rest, depth: u32) -> Result<Tall, LoadError>
-    ensures { length rest.new ≤ length rest.old }
+/// Whether at most so many nodes stand in one another in the expression.
+#[tactic(auto, using(crate::proofs::Heights::variable_within, crate::proofs::Heights::integer_within, crate::proofs::Heights::group_within, crate::proofs::Heights::apply_within, crate::proofs::Heights::none_within))]
+pub fn is_within(exp: &Exp, limit: u32) -> bool
+    ensures { result ≡ nat_le (height_of exp.now) limit }
 {
-    if depth == 0 {
-        return Err(not_built());
+    if limit == 0 {
+        return false;
     }
-    let Tall { exp, height } = expression(alloc, rest, depth - 1)?;
-    match rest.take() {
-        Some(close) => {
-            if !is_mark(&close, b')') {
-                return Err(not_built());
+    match exp {
+        Exp::Variable(_) => true,
+        Exp::Integer(_) => true,
+        Exp::Group(_, inner, _) => is_within(inner.get(), limit - 1),
+        Exp::Apply(atoms) => {
+            for atom in atoms.as_slice() {
+                if !is_within(atom, limit - 1) {
+                    return false;
+                }
             }
-            Ok(Tall {
-                exp: Exp::Group(
-                    open,
-                    Boxed::new(alloc, exp).map_err(LoadError::Memory)?,
-                    close,
-                ),
-                height: height.saturating_add(1),
-            })
+            true
         }
-        None => Err(not_built()),
     }
 }

@@ -5,11 +5,10 @@
 mod binding;
 mod equations;
 mod expressions;
+mod lexemes;
 mod loading;
 mod renaming;
-mod rest;
 mod scoping;
-mod starts;
 mod trivia;
 mod writing;
 

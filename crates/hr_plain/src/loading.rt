@@ -1,14 +1,14 @@
-ghost use Rattle.std.specs.Prelude.{IfErr, IfOk};
+ghost use Rattle.std.specs.Prelude.{◌≡◌, IfErr, IfOk};
 ghost use Rattle.hr_plain.specs.Form.{IsPlain};
-ghost use Rattle.hr_plain.specs.Refusals.{IsLoadRefusal};
+ghost use Rattle.hr_plain.specs.Refusals.{IsLoadRefusal, unread};
 
 use crate::equations::equations;
-use crate::scoping::is_scoped;
+use crate::scoping::are_scoped;
 use crate::trivia::are_plain;
 use hr_base::Items;
 use hr_lexer::{LexError, lex};
 use hr_tree::Module;
-use std::alloc::{AllocError, AllocFailed, Global};
+use std::alloc::{AllocError, Global};
 use thiserror::Error;
 
 /// Why the text of that number, from 0, is not read.
@@ -22,21 +22,17 @@ pub enum LoadError {
     Memory(AllocError),
 }
 
-impl<T: Drop> From<AllocFailed<T>> for LoadError {
-    fn from(_error: AllocFailed<T>) -> LoadError {
-        LoadError::Memory(AllocError)
-    }
-}
-
 /// The refusal of the one text that has items and isn't of the form.
-pub fn not_built() -> LoadError
+fn not_built() -> LoadError
     ensures { result ≡ LoadError.NotBuilt 0 }
 {
     LoadError::NotBuilt { text: 0 }
 }
 
 /// The lexer's refusal of the one text.
-fn unread(error: LexError) -> LoadError {
+fn unread(error: LexError) -> LoadError
+    ensures { result ≡ unread error }
+{
     match error {
         LexError::Memory(error) => LoadError::Memory(error),
         error => LoadError::Lex { text: 0, error },
@@ -56,10 +52,12 @@ pub fn load(alloc: Global, bytes: &[u8]) -> Result<Module, LoadError>
         return Err(not_built());
     }
     let Items { list, tail } = items;
-    let equations = equations(alloc, list.list)?;
-    let tree = Module { equations, tail };
-    if is_scoped(alloc, &tree).map_err(LoadError::Memory)? {
-        Ok(tree)
+    let equations = match equations(alloc, list.list).map_err(LoadError::Memory)? {
+        Some(equations) => equations,
+        None => return Err(not_built()),
+    };
+    if are_scoped(alloc, equations.as_slice()).map_err(LoadError::Memory)? {
+        Ok(Module { equations, tail })
     } else {
         Err(not_built())
     }

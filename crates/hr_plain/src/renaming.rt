@@ -4,7 +4,7 @@ ghost use Rattle.hr_plain.specs.Form.{IsPlain};
 ghost use Rattle.hr_plain.specs.Renaming.{IsFound, IsRenamed, IsWhy, NoName, Respelled, is_spelled};
 
 use crate::binding::{occurrences, owner_of};
-use crate::rest::is_variable;
+use crate::lexemes::is_variable;
 use crate::writing::respelled;
 use hr_base::{Items, Place, Pos, Text};
 use hr_lexer::is_varid;
@@ -66,7 +66,10 @@ pub fn rename(
 {
     let items = hr_tree::items(alloc, tree).map_err(Why::Memory)?;
     let Some((lexeme, old)) = named_at(tree, &items, module, pos) else {
-        return Err(nothing_at(module, pos));
+        let place = place_at(module, pos).map_err(Why::Memory)?;
+        return Err(Why::NoSuchThing {
+            at: Sought::At(place),
+        });
     };
     if !is_varid(alloc, new.as_slice()).map_err(Why::Memory)? {
         return Err(Why::WrongForm);
@@ -82,14 +85,12 @@ pub fn rename(
     Ok(text)
 }
 
-/// The refusal where no name begins at the position of the module.
-fn nothing_at(module: &Text, pos: Pos) -> Why {
-    match module.clone() {
-        Ok(module) => Why::NoSuchThing {
-            at: Sought::At(Place { module, pos }),
-        },
-        Err(error) => Why::Memory(error),
-    }
+/// The position of the module.
+fn place_at(module: &Text, pos: Pos) -> Result<Place, AllocError>
+    ensures { IfOk result (λ place. place ≡ record { «module» = «module».now; pos = pos }) }
+{
+    let module = module.clone()?;
+    Ok(Place { module, pos })
 }
 
 /// Whether some lexeme has the text.

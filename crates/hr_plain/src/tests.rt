@@ -1,5 +1,6 @@
 use crate::{LoadError, Why, load, rename};
 use hr_base::{Pos, Text};
+use hr_lexer::LexError;
 use std::alloc::Global;
 use std::test::Fail;
 
@@ -93,48 +94,153 @@ fn names_are_renamed_where_they_are_bound_and_used(rt: HostRuntime) -> Result<()
 
 #[test]
 fn texts_that_are_not_of_the_form(rt: HostRuntime) {
-    let rows = [
+    let lexemes = [
         "f = [1]",
-        " f = 1",
-        "f = 1\n g = 2",
-        "f = 1\ng\n",
-        "f =\n1",
-        "f x x = 1",
-        "f = x",
-        "f = 1\ng = 2\nf = 3",
+        "f = F",
+        "f = A.f",
+        "f = 1.5",
+        "f = \"a\"",
+        "f = 'a'",
+        "f = 1 + 2",
+        "f = 1 `f` 2",
+        "f = f -| f",
+        "f = 1;",
+        "f _ = 1",
+        "f = let",
+        "f :: f",
+        "module M where",
+        "é = 1",
+        "f é = 1",
+        "é = 1\nf = é",
+    ];
+    let trivia = [
+        "f =\t1",
+        "f = 1\t",
+        "\tf = 1",
+        "f = 1\r\ng = 2",
+        "f = 1 -- c\r\ng = 2",
+        "-- c\rf = 1",
+        "f = 1\u{C}",
+        "f =\u{A0}1",
+        "{- c -}\nf = 1",
+        "f = {- c -} 1",
+        "f = 1 {- c -}",
+        "{- {- c -} -}",
+        "\u{FEFF}f = 1",
+        "f = 1 --| c",
+    ];
+    let equations = [
         "1 = 2",
         "f = ()",
         "f = (1",
+        "f = ((1)",
         "f = 1)",
+        "f = (1))",
+        "f = )1(",
         "f = 1 = 2",
         "f (x) = 1",
+        "f = (f = 1)",
+        "(f) = 1",
         "f",
+        "f x",
         "f =",
         "= 1",
     ];
-    for text in rows {
-        let answer = load(rt.alloc(), text.as_bytes());
-        assert!(rt;
-            matches!(answer, Err(LoadError::NotBuilt { text: 0 })),
-            "{text:?}"
-        );
+    let places = [
+        " f = 1",
+        "-- c\n f = 1",
+        "f = 1\n g = 2",
+        "f = 1\ng\n",
+        "f =\n1",
+        "f\n= 1",
+        "f = (\n1)",
+        "f = (1\n)",
+        "f = 1\n2",
+        "f = 1 g = 2",
+        "f = 1\n\n  g = 2",
+    ];
+    let names = [
+        "f x x = 1",
+        "f x 1 y x = 1",
+        "f = x",
+        "f x = x\ng = x",
+        "f = f (1 x)",
+        "f = 1\ng = 2\nf = 3",
+        "f = 1\nf = 2\ng = 2\nh = 1\ng = 2",
+    ];
+    for text in lexemes {
+        assert!(rt; is_not_built(rt.alloc(), text), "{text:?}");
     }
+    for text in trivia {
+        assert!(rt; is_not_built(rt.alloc(), text), "{text:?}");
+    }
+    for text in equations {
+        assert!(rt; is_not_built(rt.alloc(), text), "{text:?}");
+    }
+    for text in places {
+        assert!(rt; is_not_built(rt.alloc(), text), "{text:?}");
+    }
+    for text in names {
+        assert!(rt; is_not_built(rt.alloc(), text), "{text:?}");
+    }
+}
+
+fn is_not_built(alloc: Global, text: &str) -> bool {
+    let answer = load(alloc, text.as_bytes());
+    matches!(answer, Err(LoadError::NotBuilt { text: 0 }))
+}
+
+#[test]
+fn texts_that_are_of_the_form(rt: HostRuntime) {
     for text in [
         "",
+        "\n \n",
         "-- c",
+        "-- é\t{- c",
         "f = 1",
+        "f = 1 -- é\t{- c\n",
+        "---- c\n\nf = 0x1F--\ng = 0o17",
         "f\n = 1",
+        "f\n x\n =\n (\n  x)",
         "f x 1 y = x (y) (f 1)\nf 1 2 3 = 4 5",
         "f f = f",
+        "f f' _a = f' _a",
+        "f 1 1 = 1 f\nf 1 1 = g\n\n-- c\n\ng = ((f))",
+        "f = 1\nf = 2\ng x = f\ng x = x",
     ] {
         assert!(rt; load(rt.alloc(), text.as_bytes()).is_ok(), "{text:?}");
     }
 }
 
-/// `f =`, then 1 in so many parentheses.
-fn nested(alloc: Global, depth: usize) -> Result<String, Fail> {
+#[test]
+fn texts_without_items(rt: HostRuntime) {
+    let answer = load(rt.alloc(), "f = \"a".as_bytes());
+    assert!(rt;
+        matches!(
+            answer,
+            Err(LoadError::Lex {
+                text: 0,
+                error: LexError::BadLexeme { place: 4 }
+            })
+        )
+    );
+    let answer = load(rt.alloc(), "f = 1\n{- c".as_bytes());
+    assert!(rt;
+        matches!(
+            answer,
+            Err(LoadError::Lex {
+                text: 0,
+                error: LexError::OpenComment { place: 6 }
+            })
+        )
+    );
+}
+
+/// `f =`, then 1 in so many parentheses, with this before each of them.
+fn nested(alloc: Global, depth: usize, before: &str) -> Result<String, Fail> {
     let mut text = String::from_str(alloc, "f = ")?;
     for _ in 0..depth {
+        text.push_str(before)?;
         text.push('(')?;
     }
     text.push('1')?;
@@ -146,8 +252,16 @@ fn nested(alloc: Global, depth: usize) -> Result<String, Fail> {
 
 #[test]
 fn nodes_nest_to_256(rt: HostRuntime) -> Result<(), Fail> {
-    for (depth, is_read) in [(253, true), (254, false), (100_000, false)] {
-        let text = nested(rt.alloc(), depth)?;
+    let rows = [
+        (253, "", true),
+        (254, "", false),
+        (100_000, "", false),
+        (126, "1 ", true),
+        (127, "1 ", false),
+        (100_000, "1 ", false),
+    ];
+    for (depth, before, is_read) in rows {
+        let text = nested(rt.alloc(), depth, before)?;
         let answer = load(rt.alloc(), text.as_bytes());
         assert_eq!(rt; answer.is_ok(), is_read, "{depth}");
     }

@@ -1,6 +1,7 @@
 ghost use Rattle.std.specs.Prelude.{◌≡◌, ◌&&◌};
 ghost use Rattle.std.specs.List.{list_all};
 ghost use Rattle.hr_plain.specs.Form as spec;
+ghost use Rattle.hr_plain.specs.Reading.{plain_behind};
 
 use hr_base::Items;
 
@@ -8,44 +9,46 @@ use hr_base::Items;
 pub fn are_plain(items: &Items) -> bool
     ensures { result ≡ (list_all (λ item. spec.is_plain_trivia item.trivia) items.now.list && spec.is_plain_trivia items.now.tail) }
 {
-    items
-        .list
-        .as_slice()
-        .iter()
-        .all(|item| is_plain_trivia(item.trivia.as_slice()))
-        && is_plain_trivia(items.tail.as_slice())
+    for item in items.list.as_slice() {
+        if !is_plain_trivia(item.trivia.as_slice()) {
+            return false;
+        }
+    }
+    is_plain_trivia(items.tail.as_slice())
 }
 
 /// The same of what stands before one lexeme.
-#[tactic(auto, unfolding(crate::specs::Form::is_plain_trivia_where))]
 fn is_plain_trivia(trivia: &[u8]) -> bool
     ensures { result ≡ spec.is_plain_trivia trivia.now }
 {
     let mut inside = false;
     for b in trivia {
-        if !is_plain(*b, inside) {
-            return false;
+        match behind(inside, *b) {
+            Some(next) => inside = next,
+            None => return false,
         }
-        inside = stays_inside(*b, inside);
     }
     true
 }
 
-/// Whether the byte may stand in the plain form, inside a line comment or outside of one.
-fn is_plain(b: u8, inside: bool) -> bool {
-    match b {
-        b'\n' => true,
-        b'\r' | b'\x0C' => false,
-        b' ' | b'-' => true,
-        _ => inside,
-    }
-}
-
-/// Whether what follows the byte is inside a line comment.
-fn stays_inside(b: u8, inside: bool) -> bool {
-    match b {
-        b'\n' => false,
-        b'-' => true,
-        _ => inside,
+/// Whether what follows the byte is inside a line comment, as the byte may be or not; none where it
+/// can't stand there.
+fn behind(inside: bool, b: u8) -> Option<bool>
+    ensures { result ≡ plain_behind inside b }
+{
+    if inside {
+        match b {
+            b'\n' => Some(false),
+            b'\r' => None,
+            b'\x0C' => None,
+            _ => Some(true),
+        }
+    } else {
+        match b {
+            b'-' => Some(true),
+            b' ' => Some(false),
+            b'\n' => Some(false),
+            _ => None,
+        }
     }
 }

@@ -1,4 +1,4 @@
-ghost use Rattle.std.specs.Prelude.{◌≡◌, length, if◌then◌else◌, IfOk};
+ghost use Rattle.std.specs.Prelude.{◌≡◌, length, IfOk, if◌then◌else◌};
 ghost use Rattle.hr_plain.specs.Target.{IsParted, Respells, RespellsAll};
 
 use hr_base::{Item, Items, Lexeme, Seq, Text};
@@ -69,15 +69,9 @@ fn respelled_item(
 fn parted(alloc: Global, trivia: &Text, before: &[u8], new: &Text) -> Result<Text, AllocError>
     ensures { IfOk result (IsParted new.now before.now trivia.now) }
 {
-    if before.is_empty() {
-        return Text::from_slice(alloc, trivia.as_slice());
-    }
-    if !trivia.is_empty() {
-        return Text::from_slice(alloc, trivia.as_slice());
-    }
-    if are_apart(alloc, before, new.as_slice())? {
-        Text::from_slice(alloc, b"")
-    } else {
+    if trivia.is_empty() && !before.is_empty() && !are_apart(alloc, before, new.as_slice())? {
         Text::from_slice(alloc, b" ")
+    } else {
+        Text::from_slice(alloc, trivia.as_slice())
     }
 }
