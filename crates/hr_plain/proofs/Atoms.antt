@@ -1,6 +1,6 @@
 -- An expression read item by item: what is read is of the form and yields the items, and what is of the form
 -- is read.
-use Rattle.std.proofs.Common.{◌≡◌, ℕ, ◌+◌, ◌≤◌, ◌<◌, Bool, true, false, ◌&&◌, nat_eq, nat_lt, nat_le, max, if◌then◌else◌, Option, Some, None, List, [], ◌∷◌, ◌++◌, length, map, refl, sym, ap, subst, ◌∙◌, suc, true≢false, append_assoc, append-nil, length-append, arith}
+use Rattle.std.proofs.Common.{◌≡◌, ℕ, ◌+◌, ◌≤◌, Bool, true, false, ◌&&◌, nat_eq, nat_lt, max, if◌then◌else◌, Option, Some, None, List, [], ◌∷◌, ◌++◌, length, map, refl, sym, ap, subst, ◌∙◌, suc, true≢false, append_assoc, append-nil, length-append, arith}
 use Rattle.std.specs.List.{AllByRecursion, flat_map, list_all}
 use Rattle.std.specs.Option.{option_and_then, option_map}
 use Rattle.std.specs.Cmp.Lexicographic.{pointwise}
@@ -10,15 +10,14 @@ use Rattle.std.proofs.lemmas.List.Folds.{list_all-map}
 use Rattle.hr_base.specs.declared.lexeme.Class.{Class}
 use Rattle.hr_base.specs.declared.lexeme.Item.{Item}
 use Rattle.hr_tree.specs.declared.tree.Exp.{Exp}
-use Rattle.hr_tree.specs.declared.tree.Exp.TheOpen.{Exp-F}
 use Rattle.hr_tree.specs.declared.tree.Exp.TheVariants.{Variable, Integer, Group, Apply}
 use Rattle.hr_tree.specs.Yields.{greatest, height_of, yield_of}
 use Rattle.hr_tree.proofs.Trees.{yield_variable, yield_integer, yield_group, yield_apply}
 use Rattle.hr_plain.specs.declared.expressions.Body.{Body}
 use Rattle.hr_plain.specs.declared.expressions.Outer.{Outer}
-use Rattle.hr_plain.specs.Form.{Shape, shape_layer, shape_of, greatest_height, is_integer, is_integer_class, is_mark, is_plain_variable, is_reserved_class}
-use Rattle.hr_plain.specs.Scoping.{is_variable, is_variable_class}
-use Rattle.hr_plain.specs.Reading.{joined, split_last, nothing_read, with_atom, opened, grouped, closed_in, closed, body_with, joined_outside, body_end}
+use Rattle.hr_plain.specs.Form.{shape_of, greatest_height, is_integer, is_integer_class, is_mark, is_plain_variable, is_reserved_class}
+use Rattle.hr_plain.specs.Scoping.{is_variable_class}
+use Rattle.hr_plain.specs.Reading.{joined, split_last, with_atom, opened, grouped, closed_in, closed, body_with, joined_outside, body_end}
 use Rattle.hr_plain.proofs.Basics.{and_false, both_left, both_right, both, if_true, if_false, all_more, all_but_last, all_last, flat_more, split_more, split_is}
 use Rattle.hr_plain.proofs.Nodes.{by_parts, shape_variable, shape_integer, shape_group, shape_apply, height_group, height_apply}
 
@@ -119,9 +118,9 @@ group_read body right outer last inner is h o j =
     let last_is : is_outer last ≡ true = all_last is_outer outer last outers in
     let group : Exp = Group last.left inner right in
     let whole : is_atom group ≡ true =
-        group_atom last.left inner right (both_right (are_atoms last.atoms) (is_mark 40 last.left) last_is) (joined_form body.atoms inner is.atoms j) h in
+    group_atom last.left inner right (both_right (are_atoms last.atoms) (is_mark 40 last.left) last_is) (joined_form body.atoms inner is.atoms j) h in
     let inside : yield_of group ≡ last.left ∷ (flat_map yield_of body.atoms ++ right ∷ []) =
-        yield_group last.left inner right ∙ ap (λ l. last.left ∷ (l ++ right ∷ [])) (joined_yield body.atoms inner j) in
+    yield_group last.left inner right ∙ ap (λ l. last.left ∷ (l ++ right ∷ [])) (joined_yield body.atoms inner j) in
     record {
       form = record {
         atoms = all_more is_atom last.atoms group (both_left (are_atoms last.atoms) (is_mark 40 last.left) last_is) whole;
@@ -149,18 +148,18 @@ close_read body longer right (Some (outer, last)) is h s e =
 pub body_longer : (body longer : Body) (item : Item) → IsBody body → body_with body item ≡ Some longer → Longer body longer item
 body_longer body longer item is e =
     by (is_plain_variable item) (is_integer item) (is_mark 40 item) (is_mark 41 item) refl refl refl refl e where
-  by : (v i l r : Bool) → is_plain_variable item ≡ v → is_integer item ≡ i → is_mark 40 item ≡ l → is_mark 41 item ≡ r
-      → (if v then Some (with_atom body (Variable item)) else (if i then Some (with_atom body (Integer item))
-      else (if l then opened body item else (if r then closed body item else None)))) ≡ Some longer → Longer body longer item
-  by true i l r hv hi hl hr h =
-      let same : with_atom body (Variable item) ≡ longer = cc in
-      subst (λ b. Longer body b item) same (atom_read body (Variable item) item is (variable_atom item hv) (yield_variable item))
-  by false true l r hv hi hl hr h =
-      let same : with_atom body (Integer item) ≡ longer = cc in
-      subst (λ b. Longer body b item) same (atom_read body (Integer item) item is (integer_atom item hi) (yield_integer item))
-  by false false true r hv hi hl hr h = open_read body longer item (nat_lt (length body.outer) greatest_height) is hl h
-  by false false false true hv hi hl hr h = close_read body longer item (split_last body.outer) is hr refl h
-  by false false false false hv hi hl hr h = absurd (cc)
+      by : (v i l r : Bool) → is_plain_variable item ≡ v → is_integer item ≡ i → is_mark 40 item ≡ l → is_mark 41 item ≡ r
+          → (if v then Some (with_atom body (Variable item)) else (if i then Some (with_atom body (Integer item))
+          else (if l then opened body item else (if r then closed body item else None)))) ≡ Some longer → Longer body longer item
+      by true i l r hv hi hl hr h =
+          let same : with_atom body (Variable item) ≡ longer = cc in
+          subst (λ b. Longer body b item) same (atom_read body (Variable item) item is (variable_atom item hv) (yield_variable item))
+      by false true l r hv hi hl hr h =
+          let same : with_atom body (Integer item) ≡ longer = cc in
+          subst (λ b. Longer body b item) same (atom_read body (Integer item) item is (integer_atom item hi) (yield_integer item))
+      by false false true r hv hi hl hr h = open_read body longer item (nat_lt (length body.outer) greatest_height) is hl h
+      by false false false true hv hi hl hr h = close_read body longer item (split_last body.outer) is hr refl h
+      by false false false false hv hi hl hr h = absurd (cc)
 
 -- an expression that has been read
 pub record Ended (body : Body) (exp : Exp) : Type 0 where
@@ -334,9 +333,9 @@ group_read_again left inner right reads outer form fits =
     let is : IsRead (outer ++ last ∷ []) inner = reads (outer ++ last ∷ []) (both_right (is_mark 40 left) (shape_of inner).is_form front) (deeper outer last (height_of inner) height) in
     let found = is.whole in
     let begin : body_with (body_of atoms outer) left ≡ Some (body_of [] (outer ++ last ∷ [])) =
-        with_left (body_of atoms outer) left (both_left (is_mark 40 left) (shape_of inner).is_form front) ∙ if_true (nat_lt (length outer) greatest_height) _ _ (room outer (height_of inner) height) in
+    with_left (body_of atoms outer) left (both_left (is_mark 40 left) (shape_of inner).is_form front) ∙ if_true (nat_lt (length outer) greatest_height) _ _ (room outer (height_of inner) height) in
     let end : body_with (body_of found.0 (outer ++ last ∷ [])) right ≡ Some (grouped outer last right inner) =
-        close_with found.0 outer last right inner (both_right (is_mark 40 left && (shape_of inner).is_form) (is_mark 41 right) shape) found.1.0 in
+    close_with found.0 outer last right inner (both_right (is_mark 40 left && (shape_of inner).is_form) (is_mark 41 right) shape) found.1.0 in
     ap (body_after (body_of atoms outer)) (yield_group left inner right)
     ∙ ap (option_and_then (λ b. body_after b (yield_of inner ++ right ∷ []))) begin
     ∙ after_append (body_of [] (outer ++ last ∷ [])) (yield_of inner) (right ∷ [])
@@ -371,9 +370,9 @@ apply_read : (atoms : List Exp) → AllByRecursion Reads atoms → Reads (Apply 
 apply_read atoms reads outer form fits =
     let shape : (nat_lt 1 (length (map shape_of atoms)) && list_all (λ s. s.is_form && s.is_atom) (map shape_of atoms)) ≡ true = sym (ap (λ s. s.is_form) (shape_apply atoms)) ∙ form in
     let many_are : nat_lt 1 (length atoms) ≡ true =
-        ap (nat_lt 1) (sym (length-map atoms shape_of)) ∙ both_left (nat_lt 1 (length (map shape_of atoms))) (list_all (λ s. s.is_form && s.is_atom) (map shape_of atoms)) shape in
+    ap (nat_lt 1) (sym (length-map atoms shape_of)) ∙ both_left (nat_lt 1 (length (map shape_of atoms))) (list_all (λ s. s.is_form && s.is_atom) (map shape_of atoms)) shape in
     let are : are_atoms atoms ≡ true =
-        sym (list_all-map (λ s. s.is_form && s.is_atom) shape_of atoms) ∙ both_right (nat_lt 1 (length (map shape_of atoms))) (list_all (λ s. s.is_form && s.is_atom) (map shape_of atoms)) shape in
+    sym (list_all-map (λ s. s.is_form && s.is_atom) shape_of atoms) ∙ both_right (nat_lt 1 (length (map shape_of atoms))) (list_all (λ s. s.is_form && s.is_atom) (map shape_of atoms)) shape in
     let height : length outer + (greatest (map height_of atoms) + 1) ≤ greatest_height = subst (λ n. length outer + n ≤ greatest_height) (height_apply atoms) fits in
     record {
       one = λ is. absurd (true≢false (sym is ∙ ap (λ s. s.is_atom) (shape_apply atoms)));

@@ -1,5 +1,5 @@
 -- Equations read item by item: what is read is of the form and yields the items, and what is of the form is read.
-use Rattle.std.proofs.Common.{◌≡◌, ℕ, ◌+◌, ◌≤◌, Bool, true, false, ◌&&◌, ◌||◌, nat_le, if◌then◌else◌, Option, Some, None, List, [], ◌∷◌, ◌++◌, length, map, refl, sym, ap, subst, ◌∙◌, true≢false, append_assoc, append-nil, arith}
+use Rattle.std.proofs.Common.{◌≡◌, ℕ, ◌+◌, ◌≤◌, Bool, true, false, ◌&&◌, ◌||◌, nat_le, if◌then◌else◌, Option, Some, None, List, [], ◌∷◌, ◌++◌, length, map, refl, sym, ap, subst, ◌∙◌, append_assoc, append-nil, arith}
 use Rattle.std.proofs.lemmas.Bool.{leb-true}
 use Rattle.std.proofs.lemmas.List.{map-append}
 use Rattle.std.proofs.lemmas.List.Folds.{list_all-append}
@@ -14,7 +14,7 @@ use Rattle.hr_plain.specs.declared.expressions.Body.{Body}
 use Rattle.hr_plain.specs.declared.expressions.Outer.{Outer}
 use Rattle.hr_plain.specs.declared.equations.Part.{Part}
 use Rattle.hr_plain.specs.Form.{equation_starts, greatest_height, is_at_margin, is_equation, is_integer, is_mark, is_pattern, is_plain_variable, margins_where, shape_of, starts_of}
-use Rattle.hr_plain.specs.Reading.{joined, nothing_read, body_with, body_end, begun, begun_behind, left_with, part_with, limited, limited_end, equation_of, part_end, step, last_of, in_front, equations_from, equations_of}
+use Rattle.hr_plain.specs.Reading.{nothing_read, body_with, body_end, begun_behind, part_with, limited, equation_of, part_end, step, in_front, equations_from, equations_of}
 use Rattle.hr_plain.proofs.Basics.{first_or, rest_of, both_left, both_right, both, if_true, if_false, all_more}
 use Rattle.hr_plain.proofs.Atoms.{IsBody, Longer, Ended, IsRead, body_items, body_longer, body_ended, body_after, all_read, mark_no_variable, mark_no_integer}
 
@@ -205,6 +205,7 @@ next_read state item items equations None is o ih e = absurd (cc)
 next_read state item items equations (Some next) is o ih e = by (equations_from (Some next.1) items) refl e where
   goes : Goes state item next.0 next.1
   goes = step_goes state item next is o
+
   by : (found : Option (List Equation)) → equations_from (Some next.1) items ≡ found → option_map (in_front next.0) found ≡ Some equations → AreRead state (item ∷ items) equations
   by None f h = absurd (cc)
   by (Some rest) f h =
@@ -276,16 +277,18 @@ equation_read equation is =
     let read : IsRead [] equation.body = all_read equation.body [] (both_left form fits right) (no_outer_fits (height_of equation.body) fits_is) in
     let found = read.whole in
     let body : Body = record { atoms = found.0; outer = [] } in
-    let make : Body → Part = Part.Right equation.name equation.patterns equation.equals in
-    (make body, record {
-      reads = patterns_read equation.name [] equation.patterns (equation.equals ∷ yield_of equation.body) patterns_are
-          ∙ ap (option_and_then (λ longer. part_after longer (yield_of equation.body)))
-          (if_false (is_pattern equation.equals) _ _ (mark_no_pattern equation.equals mark_is) ∙ if_true mark (Some (make nothing_read)) None mark_is)
-          ∙ body_read equation.name equation.patterns equation.equals nothing_read (yield_of equation.body)
-          ∙ ap (option_map make) found.1.1;
-      ends = ap (λ o. option_map (equation_of equation.name equation.patterns equation.equals) (option_and_then limited o)) found.1.0
-          ∙ ap (option_map (equation_of equation.name equation.patterns equation.equals)) (if_true fits (Some equation.body) None fits_is);
-    })
+    let make : Body → Part = Part.Right equation.name equation.patterns equation.equals in (
+      make body,
+      record {
+        reads = patterns_read equation.name [] equation.patterns (equation.equals ∷ yield_of equation.body) patterns_are
+            ∙ ap (option_and_then (λ longer. part_after longer (yield_of equation.body)))
+            (if_false (is_pattern equation.equals) _ _ (mark_no_pattern equation.equals mark_is) ∙ if_true mark (Some (make nothing_read)) None mark_is)
+            ∙ body_read equation.name equation.patterns equation.equals nothing_read (yield_of equation.body)
+            ∙ ap (option_map make) found.1.1;
+        ends = ap (λ o. option_map (equation_of equation.name equation.patterns equation.equals) (option_and_then limited o)) found.1.0
+            ∙ ap (option_map (equation_of equation.name equation.patterns equation.equals)) (if_true fits (Some equation.body) None fits_is);
+      },
+    )
 
 nothing_in_front : (o : Option (List Equation)) → option_map (in_front None) o ≡ o
 nothing_in_front None = refl
@@ -298,17 +301,19 @@ inside_read : (part last : Part) (items more : List Item) (starts : List Bool) �
 inside_read part last [] more starts h m = let same : part ≡ last = cc in (ap (λ p. equations_from (Some p) more) same, m)
 inside_read part last (item ∷ items) more starts h m =
     by (part_with part item) refl h (ap (first_or true) m) (λ longer a. inside_read longer last items more starts a (ap rest_of m)) where
-  by : (o : Option Part) → part_with part item ≡ o → option_and_then (λ longer. part_after longer items) o ≡ Some last → is_at_margin false item ≡ false
-      → ((longer : Part) → part_after longer items ≡ Some last
-      → (equations_from (Some longer) (items ++ more) ≡ equations_from (Some last) more) × (margins_where false more ≡ starts))
-      → (equations_from (Some part) (item ∷ (items ++ more)) ≡ equations_from (Some last) more) × (margins_where false more ≡ starts)
-  by None p a b ih = absurd (cc)
-  by (Some longer) p a b ih =
-      let found = ih longer a in
-      let one : step (Some part) item ≡ Some (None, longer) =
-          if_false (is_at_margin false item) _ _ b ∙ ap (option_map (λ with_item. (None, with_item))) p in
-      (ap (option_and_then (λ next. option_map (in_front next.0) (equations_from (Some next.1) (items ++ more)))) one
-      ∙ nothing_in_front (equations_from (Some longer) (items ++ more)) ∙ found.0, found.1)
+      by : (o : Option Part) → part_with part item ≡ o → option_and_then (λ longer. part_after longer items) o ≡ Some last → is_at_margin false item ≡ false
+          → ((longer : Part) → part_after longer items ≡ Some last
+          → (equations_from (Some longer) (items ++ more) ≡ equations_from (Some last) more) × (margins_where false more ≡ starts))
+          → (equations_from (Some part) (item ∷ (items ++ more)) ≡ equations_from (Some last) more) × (margins_where false more ≡ starts)
+      by None p a b ih = absurd (cc)
+      by (Some longer) p a b ih =
+          let found = ih longer a in
+          let one : step (Some part) item ≡ Some (None, longer) =
+          if_false (is_at_margin false item) _ _ b ∙ ap (option_map (λ with_item. (None, with_item))) p in (
+            ap (option_and_then (λ next. option_map (in_front next.0) (equations_from (Some next.1) (items ++ more)))) one
+                ∙ nothing_in_front (equations_from (Some longer) (items ++ more)) ∙ found.0,
+            found.1,
+          )
 
 begun_is : (ended : Option Equation) (name : Item) → is_plain_variable name ≡ true → begun_behind ended name ≡ Some (ended, Part.Left name [])
 begun_is ended name h = ap (option_map (λ part. (ended, part))) (if_true (is_plain_variable name) (Some (Part.Left name [])) None h)
@@ -330,8 +335,8 @@ behind_read part equation (next ∷ equations) h are m =
     let read = equation_read next is in
     let inside = inside_read (Part.Left next.name []) read.0 (behind_name next) (flat_map equation_items equations) (starts_of equations) read.1.reads (ap rest_of m) in
     let one : step (Some part) next.name ≡ Some (Some equation, Part.Left next.name []) =
-        if_true (is_at_margin false next.name) _ _ (ap (first_or true) m)
-        ∙ ap (option_and_then (λ e. begun_behind (Some e) next.name)) h ∙ begun_is (Some equation) next.name (name_is next is) in
+    if_true (is_at_margin false next.name) _ _ (ap (first_or true) m)
+    ∙ ap (option_and_then (λ e. begun_behind (Some e) next.name)) h ∙ begun_is (Some equation) next.name (name_is next is) in
     ap (option_and_then (λ n. option_map (in_front n.0) (equations_from (Some n.1) (behind_name next ++ flat_map equation_items equations)))) one
     ∙ ap (option_map (in_front (Some equation))) (inside.0 ∙ behind_read read.0 next equations read.1.ends (both_right (is_equation next) (list_all is_equation equations) are) inside.1)
 
@@ -344,7 +349,7 @@ form_read (next ∷ equations) are m =
     let read = equation_read next is in
     let inside = inside_read (Part.Left next.name []) read.0 (behind_name next) (flat_map equation_items equations) (starts_of equations) read.1.reads (ap rest_of m) in
     let one : step None next.name ≡ Some (None, Part.Left next.name []) =
-        if_true (is_at_margin true next.name) _ _ (ap (first_or true) m) ∙ begun_is None next.name (name_is next is) in
+    if_true (is_at_margin true next.name) _ _ (ap (first_or true) m) ∙ begun_is None next.name (name_is next is) in
     ap (option_and_then (λ n. option_map (in_front n.0) (equations_from (Some n.1) (behind_name next ++ flat_map equation_items equations)))) one
     ∙ nothing_in_front (equations_from (Some (Part.Left next.name [])) (behind_name next ++ flat_map equation_items equations))
     ∙ inside.0 ∙ behind_read read.0 next equations read.1.ends (both_right (is_equation next) (list_all is_equation equations) are) inside.1

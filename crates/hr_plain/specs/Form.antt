@@ -3,7 +3,6 @@
 use Rattle.std.specs.Prelude.{◌≡◌, ℕ, Bool, true, false, not, ◌&&◌, ◌||◌, ◌==◌, nat_eq, nat_le, nat_lt, List, [], ◌∷◌, ◌++◌, length, map, All, if◌then◌else◌, Option, Some, None}
 use Rattle.std.specs.List.{IsDistinct, filter, flat_map, last_or, list_all, list_any}
 use Rattle.std.specs.Cmp.Lexicographic.{pointwise}
-
 use Rattle.hr_base.specs.declared.lexeme.Class.{Class}
 use Rattle.hr_base.specs.declared.lexeme.Item.{Item}
 use Rattle.hr_rules.specs.Letters.{is_newline}
