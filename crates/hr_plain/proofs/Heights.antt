@@ -1,5 +1,5 @@
 -- Whether no more nodes than a limit stand in one another.
-use Rattle.std.proofs.Common.{◌≡◌, ℕ, ◌+◌, ◌-◌, ◌<◌, ◌≤◌, Bool, true, false, ◌&&◌, nat_le, max, List, [], ◌∷◌, map, length, drop, get_or, refl, sym, ap, ◌∙◌, drop_of_length-le, arith}
+use Rattle.std.proofs.Common.{◌≡◌, ℕ, ◌+◌, ◌-◌, ◌<◌, ◌≤◌, Bool, true, false, ◌&&◌, nat_le, max, List, [], ◌∷◌, map, length, drop, get_or, sym, ap, ◌∙◌, drop_of_length-le, arith}
 use Rattle.std.specs.List.{list_all}
 use Rattle.std.proofs.lemmas.List.Folds.{list_all-map}
 use Rattle.hr_base.specs.declared.lexeme.Item.{Item}
