@@ -3,6 +3,7 @@ use crate::work::refactor;
 use hr_base::Seq;
 use hr_shelf::{FileShelf, MemoryShelf, MemorySink};
 use std::alloc::Global;
+use std::process::Abort;
 use std::test::Fail;
 use std::{env, fs};
 
@@ -47,6 +48,18 @@ fn run_failing(
     let report = str::from_utf8(out.written())?;
     let file = str::from_utf8(shelf.bytes("Main.hs").unwrap_or(b""))?;
     Ok(format!(in alloc; "{status}|{report}|{file}")?)
+}
+
+/// The status and the report of a run over one file that stays as it was.
+fn refused(rt: &impl Abort, alloc: Global, line: &str, bytes: &[u8]) -> Result<String, Fail> {
+    let mut shelf = MemoryShelf::new(alloc, numbers(alloc, &[])?)?;
+    shelf.put(alloc, "Main.hs", Vec::from_slice(alloc, bytes)?)?;
+    let mut out = MemorySink::new(alloc, 1000, numbers(alloc, &[])?)?;
+    let words = words_of(alloc, line)?;
+    let status = refactor(alloc, words.as_slice(), &mut shelf, &mut out).code();
+    assert!(rt; shelf.bytes("Main.hs") == Some(bytes));
+    let report = str::from_utf8(out.written())?;
+    Ok(format!(in alloc; "{status}|{report}")?)
 }
 
 #[test]
@@ -119,6 +132,151 @@ fn one_run_ends_as_these_rows_say(rt: HostRuntime) -> Result<(), Fail> {
 }
 
 #[test]
+fn a_file_that_is_not_lexed_is_shown_with_its_place(rt: HostRuntime) -> Result<(), Fail> {
+    let alloc = rt.alloc();
+    let mut comments = Vec::new(alloc);
+    for _ in 0..100_000 {
+        comments.extend_from_slice(b"{-")?;
+    }
+    let rows: [(&[u8], &str); 9] = [
+        (b"f\xFF", "1 Main.hs 1"),
+        (b"f = 1\n\xC3", "1 Main.hs 6"),
+        (b"x = 'ab'", "2 Main.hs 4"),
+        (b"x = 1\ny = \"a\n", "2 Main.hs 10"),
+        (b"\xC3\xA9 = 'ab'", "2 Main.hs 5"),
+        (b"f = 1 {- x", "3 Main.hs 6"),
+        (comments.as_slice(), "3 Main.hs 0"),
+        (b"x = 9223372036854775808", "4 Main.hs 4"),
+        (b"f = [1]", "25 Main.hs"),
+    ];
+    for (bytes, cause) in rows {
+        let answer = refused(&rt, alloc, "rename Main 1:1 t in Main.hs", bytes)?;
+        let want = format!(in alloc; "4|not accepted: {cause}\n")?;
+        assert_eq!(rt; answer.as_str(), want.as_str());
+    }
+    Ok(())
+}
+
+#[test]
+fn steps_are_refused_as_these_rows_say(rt: HostRuntime) -> Result<(), Fail> {
+    let alloc = rt.alloc();
+    let rows = [
+        ("rename Main 1:17 k", "1|1 rename: refused 31 Main:1:17"),
+        ("rename Main 1:60 k", "1|1 rename: refused 31 Main:1:60"),
+        ("rename Main 2:10 k", "1|1 rename: refused 31 Main:2:10"),
+        ("rename Main 1:11 k", "1|1 rename: refused 31 Main:1:11"),
+        ("rename Main 1:5 k", "1|1 rename: refused 31 Main:1:5"),
+        (
+            "rename Main 4294967295:1 k",
+            "1|1 rename: refused 31 Main:4294967295:1",
+        ),
+        (
+            "rename Main 4294967295:4294967295 k",
+            "1|1 rename: refused 31 Main:4294967295:4294967295",
+        ),
+        ("rename M\u{e9} 1:1 k", "1|1 rename: refused 31 M\u{e9}:1:1"),
+        ("rename Other 9:9 where", "1|1 rename: refused 31 Other:9:9"),
+        ("rename Main 1:1 where", "1|1 rename: refused 33"),
+        ("rename Main 1:1 _", "1|1 rename: refused 33"),
+        ("rename Main 1:1 +", "1|1 rename: refused 33"),
+        ("rename Main 1:1 K", "1|1 rename: refused 33"),
+        ("rename Main 1:1 M.k", "1|1 rename: refused 33"),
+        ("rename Main 1:1 1", "1|1 rename: refused 33"),
+        ("rename Main 1:1 1k", "1|1 rename: refused 33"),
+        ("rename Main 1:1 k-", "1|1 rename: refused 33"),
+        ("rename Main 1:1 {-k-}", "1|1 rename: refused 33"),
+        ("rename Main 1:1 'k'", "1|1 rename: refused 33"),
+        ("rename Main 1:1 \u{c9}", "1|1 rename: refused 33"),
+        ("rename Main 1:1 f", "1|1 rename: refused 58"),
+        ("rename Main 1:1 h", "1|1 rename: refused 58"),
+        ("rename Main 1:1 b", "1|1 rename: refused 58"),
+    ];
+    for (words, report) in rows {
+        let line = format!(in alloc; "{words} in Main.hs")?;
+        let answer = refused(&rt, alloc, line.as_str(), SUMS.as_bytes())?;
+        let want = format!(in alloc; "{report}\nchanged 0\n")?;
+        assert_eq!(rt; answer.as_str(), want.as_str(), "{words}");
+    }
+    Ok(())
+}
+
+#[test]
+fn steps_are_accepted_as_these_rows_say(rt: HostRuntime) -> Result<(), Fail> {
+    let alloc = rt.alloc();
+    let rows = [
+        (
+            "2:3 left",
+            "f x = g x 1   -- sums\ng left b = h (left) b\nh a b = f a\n",
+        ),
+        (
+            "2:12 left",
+            "f x = g x 1   -- sums\ng left b = h (left) b\nh a b = f a\n",
+        ),
+        (
+            "3:5 c",
+            "f x = g x 1   -- sums\ng a b = h (a) b\nh a c = f a\n",
+        ),
+        (
+            "1:7 k'",
+            "f x = k' x 1   -- sums\nk' a b = h (a) b\nh a b = f a\n",
+        ),
+        (
+            "1:1 \u{e9}",
+            "\u{e9} x = g x 1   -- sums\ng a b = h (a) b\nh a b = \u{e9} a\n",
+        ),
+        (
+            "1:1 wherever_1",
+            "wherever_1 x = g x 1   -- sums\ng a b = h (a) b\nh a b = wherever_1 a\n",
+        ),
+    ];
+    for (words, text) in rows {
+        let line = format!(in alloc; "rename Main {words} in Main.hs")?;
+        let answer = run(alloc, line.as_str(), SUMS)?;
+        let want = format!(in alloc; "0|1 rename: done\nchanged 1\nMain.hs\n|{text}")?;
+        assert_eq!(rt; answer.as_str(), want.as_str(), "{words}");
+    }
+    let only_in_arguments = "f a = 1\nk = g (f 2) f\ng a b = a b\n";
+    let answer = run(alloc, "rename Main 1:1 two in Main.hs", only_in_arguments)?;
+    let want = "0|1 rename: done\nchanged 1\nMain.hs\n|two a = 1\nk = g (two 2) two\ng a b = a b\n";
+    assert_eq!(rt; answer.as_str(), want);
+    let apart = run(
+        alloc,
+        "rename Main 1:1 xF in Main.hs",
+        "y = 1\ng a b = a\nk = g 0y\n",
+    )?;
+    let want = "0|1 rename: done\nchanged 1\nMain.hs\n|xF = 1\ng a b = a\nk = g 0 xF\n";
+    assert_eq!(rt; apart.as_str(), want);
+    Ok(())
+}
+
+/// A line `f = 1`, and a line comment that makes the text so many bytes long.
+fn padded(alloc: Global, len: usize) -> Result<Vec<u8>, Fail> {
+    let mut bytes = Vec::from_slice(alloc, b"f = 1\n--")?;
+    let dashes = vec![in alloc; b'-'; len.saturating_sub(bytes.len())]?;
+    bytes.extend_from_slice(dashes.as_slice())?;
+    Ok(bytes)
+}
+
+#[test]
+fn a_text_that_grows_past_the_limit_is_refused(rt: HostRuntime) -> Result<(), Fail> {
+    let alloc = rt.alloc();
+    let bytes = padded(alloc, 1_048_575)?;
+    let line = "rename Main 1:1 two in Main.hs";
+    let answer = refused(&rt, alloc, line, bytes.as_slice())?;
+    assert_eq!(rt; answer.as_str(), "1|1 rename: refused 57\nchanged 0\n");
+    let fits = run(
+        alloc,
+        "rename Main 1:1 ab in Main.hs",
+        str::from_utf8(bytes.as_slice())?,
+    )?;
+    assert_eq!(rt;
+        fits.len(),
+        1_048_576 + "0|1 rename: done\nchanged 1\nMain.hs\n|".len()
+    );
+    Ok(())
+}
+
+#[test]
 fn faults_of_the_outside_are_told(rt: HostRuntime) -> Result<(), Fail> {
     let line = "rename Main 1:1 total in Main.hs";
     let read: &[u32] = &[1];
@@ -135,6 +293,8 @@ fn faults_of_the_outside_are_told(rt: HostRuntime) -> Result<(), Fail> {
         (none, read, "7||", TOTAL),
         (read, read, "7||", SUMS),
         (replace, read, "7||", SUMS),
+        (read, replace, "5|read fault: Main.hs\n|", SUMS),
+        (&[1, 2], none, "5|read fault: Main.hs\n|", SUMS),
     ];
     for (failing, sink_failing, start, file) in rows {
         let answer = run_failing(rt.alloc(), line, SUMS, failing, sink_failing)?;

@@ -1,8 +1,8 @@
 -- Classes, pieces and barriers on the bytes of characters are those on the characters.
-use Rattle.std.proofs.Common.{◌≡◌, ◌≢◌, ℕ, ◌+◌, ◌-◌, ◌≤◌, Bool, true, false, cond, ◌&&◌, List, [], ◌∷◌, ◌++◌, length, take, drop, Option, Some, None, refl, sym, ap, subst, ◌∙◌, true≢false, arith, length-append, take-append-drop}
+use Rattle.std.proofs.Common.{◌≡◌, ℕ, ◌+◌, ◌-◌, ◌≤◌, Bool, true, false, cond, ◌&&◌, List, [], ◌∷◌, ◌++◌, length, take, drop, Option, Some, None, refl, sym, ap, subst, ◌∙◌, true≢false, arith, length-append, take-append-drop}
 use Rattle.std.specs.Option.{IsSome, is_some}
 use Rattle.std.specs.Str.{chars, is_utf8, IsUtf8}
-use Rattle.std.proofs.lemmas.Str.{chars-append, chars-encodes, chars-nil, encodes-append, encodes-chars, scalars-chars, IsUtf8-from_is_utf8, is_utf8-from_IsUtf8}
+use Rattle.std.proofs.lemmas.Str.{chars-append, chars-encodes, chars-nil, encodes-append, encodes-chars, IsUtf8-from_is_utf8, is_utf8-from_IsUtf8}
 use Rattle.std.proofs.Math.Seq.{take-append-add}
 use lib.Utf8.{scalar, scalars, encodes}
 use Rattle.hr_base.specs.declared.lexeme.Class.{Class}
@@ -12,7 +12,7 @@ use Rattle.hr_rules.specs.Stops.{NothingFits}
 use Rattle.hr_lexer.specs.declared.taken.Taken.{Taken}
 use Rattle.hr_lexer.specs.LexemeReader.{lexeme_at}
 use Rattle.hr_lexer.specs.TriviaReader.{piece_len}
-use Rattle.hr_lexer.proofs.Statements.{LexemeRight, LexemeLongest, PieceRight, PieceFound}
+use Rattle.hr_lexer.proofs.Statements.{LexemeRight, LexemeLongest, PieceFound}
 
 pub both_left : (a b : Bool) → (a && b) ≡ true → a ≡ true
 both_left true b e = refl
@@ -81,7 +81,7 @@ spelled_by text after cs s e are =
       whole = sym (chars-encodes cs s) ∙ ap chars e ∙ chars-append text after left;
     }
 
-class_are : (b : Bool) (x : Option Class) → IsSome (cond b x None) → b ≡ true
+pub class_are : (b : Bool) (x : Option Class) → IsSome (cond b x None) → b ≡ true
 class_are true x e = refl
 class_are false x e = absurd (true≢false (sym e))
 

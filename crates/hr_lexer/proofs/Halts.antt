@@ -1,9 +1,8 @@
 -- Why nothing fits where no lexeme is read.
-use Rattle.std.proofs.Common.{◌≡◌, ◌≢◌, ℕ, zero, suc, ◌+◌, ◌*◌, ◌-◌, ◌≤◌, Bool, true, false, cond, not, ◌&&◌, List, [], ◌∷◌, ◌++◌, length, Option, Some, None, refl, sym, ap, subst, ◌∙◌, true≢false, arith}
+use Rattle.std.proofs.Common.{◌≡◌, ℕ, ◌+◌, ◌*◌, ◌≤◌, Bool, true, false, cond, List, [], ◌∷◌, length, Some, None, refl, sym, ap, subst, ◌∙◌, true≢false, arith}
 use Rattle.std.proofs.lemmas.Bool.Decides.{nat_tests}
-use Rattle.std.specs.Prelude.{nat_le, nat_lt}
+use Rattle.std.specs.Prelude.{nat_le}
 use Rattle.std.specs.Option.{IsSome}
-use Rattle.std.specs.Str.{chars}
 use Rattle.std.specs.Char.{digit_value}
 use Rattle.std.proofs.lemmas.Str.{chars-encodes}
 use lib.Utf8.{scalars, encodes}
@@ -15,7 +14,7 @@ use Rattle.hr_rules.specs.Numbers.{greatest_integer, is_too_wide}
 use Rattle.hr_rules.specs.Lexemes.{spelled_class_by, spelled_bars_by, class_of, is_piece, bars}
 use Rattle.hr_rules.specs.Stops.{Stops}
 use Rattle.hr_lexer.specs.declared.error.LexError.{LexError}
-use Rattle.hr_lexer.specs.LexemeReader.{lexeme_at, lexeme_at_by}
+use Rattle.hr_lexer.specs.LexemeReader.{lexeme_at}
 use Rattle.hr_lexer.specs.Refusals.{opens_comment, begins_wide, wide_by, cause_by, cause_of, Halts, IsHalt}
 use Rattle.hr_lexer.proofs.Statements.{LexemeLongest}
 use Rattle.hr_lexer.proofs.Bytes.{none_some}

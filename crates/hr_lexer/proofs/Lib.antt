@@ -2,8 +2,8 @@ pub mod Agreeing
 pub mod Bytes
 pub mod ClosedRead
 pub mod EscapesRead
+pub mod Exactly
 pub mod FloatsRead
-pub mod FrontRuns
 pub mod Halts
 pub mod Instances
 pub mod IntegersRead
@@ -11,6 +11,7 @@ pub mod Longest
 pub mod Marks
 pub mod NamesRead
 pub mod NumbersRead
+pub mod OneWord
 pub mod Pieces
 pub mod PiecesRead
 pub mod Progress
@@ -18,6 +19,7 @@ pub mod QualifiedFound
 pub mod QualifiedRead
 pub mod QuotesRead
 pub mod RunsRead
+pub mod SideBySide
 pub mod Splits
 pub mod Statements
 pub mod Steps

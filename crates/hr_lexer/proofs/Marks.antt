@@ -1,11 +1,10 @@
 -- A byte order mark among the characters is one among the bytes.
-use Rattle.std.proofs.Common.{◌≡◌, ◌≢◌, ℕ, Bool, true, false, cond, ◌==◌, List, [], ◌∷◌, ◌++◌, length, take, drop, refl, sym, ap, subst, ◌∙◌, true≢false, arith, take-append-drop}
+use Rattle.std.proofs.Common.{◌≡◌, ℕ, Bool, true, false, cond, ◌==◌, List, [], ◌∷◌, ◌++◌, length, take, drop, refl, sym, ap, ◌∙◌, true≢false, take-append-drop}
 use Rattle.std.proofs.lemmas.Bool.{eqb-true, eq-eqb}
 use Rattle.std.proofs.lemmas.Slice.Eq.{bytes_eq-Decides}
 use Rattle.std.proofs.lemmas.Str.{encode_same}
 use Rattle.std.specs.Prelude.{nat_eq}
 use Rattle.std.specs.List.{starts_with}
-use Rattle.std.specs.Str.{bytes_eq}
 use lib.Utf8.{encode, encodes}
 use Rattle.hr_rules.specs.Lexemes.{byte_order_mark, mark_len}
 use Rattle.hr_lexer.specs.Marks.{mark_count}
@@ -15,7 +14,7 @@ mark_bytes : encode 0xFEFF ≡ byte_order_mark
 unfolding encode
 mark_bytes = refl
 
-begins_mark : (bytes : List ℕ) → starts_with nat_eq bytes byte_order_mark ≡ true → bytes ≡ encode 0xFEFF ++ drop 3 bytes
+pub begins_mark : (bytes : List ℕ) → starts_with nat_eq bytes byte_order_mark ≡ true → bytes ≡ encode 0xFEFF ++ drop 3 bytes
 begins_mark bytes e =
     let same : byte_order_mark ≡ take 3 bytes = (bytes_eq-Decides byte_order_mark (take 3 bytes)).0 e in
     sym (take-append-drop 3 bytes) ∙ ap (λ x. x ++ drop 3 bytes) (sym same ∙ sym mark_bytes)

@@ -12,7 +12,7 @@ use Rattle.hr_rules.specs.Lexemes.{is_empty, spelled_piece, spelled_piece_by}
 use Rattle.hr_rules.proofs.Apart.{both_left, both_right, both, and_false, goes_on_over, begins_over, closed_over, ends, Keeps}
 use Rattle.hr_lexer.specs.TriviaReader.{line_comment_len, nested_comment_len, piece_len_by}
 use Rattle.hr_lexer.proofs.Statements.{PieceRight, PieceFound}
-use Rattle.hr_lexer.proofs.FrontRuns.{run_front, run_len}
+use Rattle.hr_lexer.proofs.RunsRead.{whole_run, whole_run_len}
 
 no_some : {A : Type 0} {n : ℕ} → None ≡ Some n → A
 no_some e = cc
@@ -47,7 +47,7 @@ begins_under (a ∷ b ∷ rest) after stop is = ap (λ x. (is_dash a && is_dash 
 line_front : (text : List ℕ) → begins_line_comment text ≡ true → is_line_comment (take (prefix_len is_in_line text) text) (drop (prefix_len is_in_line text) text) ≡ true
 line_front text is =
     let n : ℕ = prefix_len is_in_line text in
-    let run : is_run is_in_line (take n text) (drop n text) ≡ true = run_front is_in_line text in
+    let run : is_run is_in_line (take n text) (drop n text) ≡ true = whole_run is_in_line text in
     let stop : stops is_in_line (drop n text) ≡ true = both_right (list_all is_in_line (take n text)) (stops is_in_line (drop n text)) run in
     let whole : begins_line_comment (take n text ++ drop n text) ≡ true = ap begins_line_comment (take-append-drop n text) ∙ is in
     both (begins_line_comment (take n text)) (is_run is_in_line (take n text) (drop n text)) (begins_under (take n text) (drop n text) stop whole) run
@@ -187,7 +187,7 @@ line_found x after is =
     let run : is_run is_in_line x after ≡ true = both_right (begins_line_comment x) (is_run is_in_line x after) is in
     let stop : stops is_in_line after ≡ true = both_right (list_all is_in_line x) (stops is_in_line after) run in
     let begin : begins_line_comment (x ++ after) ≡ true = begins_over x after stop (both_left (begins_line_comment x) (is_run is_in_line x after) is) in
-    ap (λ b. cond b (Some (prefix_len is_in_line (x ++ after))) None) begin ∙ ap Some (run_len is_in_line x after run)
+    ap (λ b. cond b (Some (prefix_len is_in_line (x ++ after))) None) begin ∙ ap Some (whole_run_len is_in_line x after run)
 
 nested_found : (x after : List ℕ) → is_nested_comment x ≡ true → nested_comment_len (x ++ after) ≡ Some (length x)
 unfolding Keeps

@@ -1,12 +1,12 @@
 -- What the readers have to meet, on characters: each statement is proved in a file of its own.
-use Rattle.std.proofs.Common.{◌≡◌, ◌<◌, ◌≤◌, ℕ, true, false, List, ◌∷◌, ◌++◌, length, take, drop, Some, None}
+use Rattle.std.proofs.Common.{◌≡◌, ◌<◌, ◌≤◌, ℕ, true, false, List, ◌∷◌, ◌++◌, length, take, drop, Some}
 use Rattle.std.specs.Option.{IsSome}
 use Rattle.hr_rules.specs.declared.character.Kind.{Kind}
 use Rattle.hr_rules.specs.Letters.{kind_of}
 use Rattle.hr_rules.specs.Lexemes.{spelled_class, spelled_class_by, spelled_bars, spelled_bars_by, spelled_piece}
 use Rattle.hr_lexer.specs.declared.taken.Taken.{Taken}
 use Rattle.hr_lexer.specs.LexemeReader.{lexeme_at, lexeme_at_by}
-use Rattle.hr_lexer.specs.TriviaReader.{piece_len, trivia_len}
+use Rattle.hr_lexer.specs.TriviaReader.{piece_len}
 
 -- what is read where a text begins with a character of this kind is a lexeme of its class, where one may begin
 abbrev pub ReadsRight : Kind → Type 0

@@ -1,5 +1,5 @@
 -- Blanks and comments are read as many as stand together.
-use Rattle.std.proofs.Common.{◌≡◌, ◌<◌, ◌≤◌, ℕ, zero, suc, ◌+◌, ◌-◌, true, false, List, [], ◌∷◌, ◌++◌, length, take, drop, Option, Some, None, refl, sym, ap, subst, ◌∙◌, arith, length-drop, take-append-drop, take-add, drop-drop}
+use Rattle.std.proofs.Common.{◌≡◌, ◌<◌, ◌≤◌, ℕ, zero, suc, ◌+◌, ◌-◌, true, List, [], ◌∷◌, ◌++◌, length, take, drop, Option, Some, None, refl, sym, ap, subst, ◌∙◌, arith, length-drop, take-append-drop, take-add, drop-drop}
 use Rattle.hr_rules.specs.Lexing.{Trivia}
 use Rattle.hr_rules.specs.Lexing.Trivia.{none, more}
 use Rattle.hr_rules.specs.Lexemes.{spelled_piece}

@@ -1,11 +1,11 @@
 -- Where what is left of a text can't be lexed, the whole text is refused at that place.
-use Rattle.std.proofs.Common.{◌≡◌, ℕ, ◌+◌, ◌≤◌, true, false, List, [], ◌∷◌, ◌++◌, length, take, drop, refl, sym, ap, subst, ◌∙◌, arith, append_assoc, length-append, take-append-drop}
+use Rattle.std.proofs.Common.{◌≡◌, ℕ, ◌+◌, ◌≤◌, true, false, List, ◌++◌, length, take, drop, refl, sym, ap, subst, ◌∙◌, arith, append_assoc, length-append, take-append-drop}
 use Rattle.std.proofs.Math.Seq.{drop-append_seam}
 use Rattle.std.specs.Str.{chars, IsUtf8}
 use Rattle.hr_base.specs.declared.lexeme.Item.{Item}
 use Rattle.hr_rules.specs.Lexing.{Classes, Pieces, Barriers}
 use Rattle.hr_rules.specs.Lexemes.{class_of, is_piece, bars, mark_len}
-use Rattle.hr_rules.specs.Stops.{Leads, Stops, StopsAt}
+use Rattle.hr_rules.specs.Stops.{Leads, Stops}
 use Rattle.hr_rules.specs.Stops.Leads.{here, past}
 use Rattle.hr_lexer.specs.declared.error.LexError.{LexError}
 use Rattle.hr_lexer.specs.Refusals.{opens_comment, begins_wide, Stuck, Halts, IsHalt, IsStop, OrMemory}

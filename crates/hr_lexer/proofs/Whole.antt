@@ -1,10 +1,9 @@
 -- The statements of each kind make those of all kinds together.
-use Rattle.std.proofs.Common.{◌≡◌, ◌≢◌, ℕ, true, false, List, [], ◌∷◌, ◌++◌, Some, None, refl, sym, ap, ◌∙◌, true≢false}
-use Rattle.std.specs.Option.{IsSome, is_some}
+use Rattle.std.proofs.Common.{◌≡◌, ℕ, List, [], ◌∷◌, Some, None, refl, sym, ap, ◌∙◌, true≢false}
+use Rattle.std.specs.Option.{is_some}
 use Rattle.hr_rules.specs.declared.character.Kind.{Kind}
 use Rattle.hr_rules.specs.Letters.{kind_of}
-use Rattle.hr_rules.specs.Lexemes.{spelled_class_by, spelled_bars_by}
-use Rattle.hr_lexer.specs.declared.taken.Taken.{Taken}
+use Rattle.hr_rules.specs.Lexemes.{spelled_class_by}
 use Rattle.hr_lexer.specs.LexemeReader.{lexeme_at_by}
 use Rattle.hr_lexer.proofs.Statements.{Reads, LexemeRight, LexemeLongest}
 

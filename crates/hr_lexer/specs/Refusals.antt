@@ -1,6 +1,7 @@
 -- When a text is refused, and where.
-use Rattle.std.specs.Prelude.{◌≡◌, ◌<◌, ◌≤◌, ◌+◌, ℕ, Bool, true, false, not, if◌then◌else◌, List, [], ◌∷◌, length, drop, ⊤}
+use Rattle.std.specs.Prelude.{◌≡◌, ◌<◌, ◌≤◌, ◌+◌, ℕ, Bool, true, false, if◌then◌else◌, List, [], ◌∷◌, length, drop, ⊤, Result, MatchResult}
 use Rattle.std.specs.Str.{chars, IsUtf8, IsValidUpTo}
+use Rattle.hr_base.specs.declared.lexeme.Items.{Items}
 use Rattle.hr_rules.specs.declared.character.Kind.{Kind}
 use Rattle.hr_rules.specs.Letters.{kind_of}
 use Rattle.hr_rules.specs.Comments.{opens}
@@ -49,6 +50,14 @@ IsCause bytes error = (length bytes ≤ longest_text) × IsStop bytes error
 abbrev pub OrMemory : (LexError → Type 0) → LexError → Type 0
 OrMemory Is (LexError.Memory _) = Unit {0}
 OrMemory Is error = Is error
+
+-- a call answers with this refusal, or has no memory
+abbrev pub Refuses : LexError → Result Items LexError → Type 0
+Refuses error answer = MatchResult answer (λ items. ⊥) (OrMemory (λ other. other ≡ error))
+
+-- a call answers with these items, or has no memory
+abbrev pub Reads : Items → Result Items LexError → Type 0
+Reads items answer = MatchResult answer (λ others. others ≡ items) (OrMemory (λ error. ⊥))
 
 -- why nothing fits where these characters are left
 abbrev pub cause_by : Kind → ℕ → LexError

@@ -1,6 +1,8 @@
 -- Texts that are one lexeme, and lexemes that stand side by side (Haskell 98 Report, sections 2.2 and 2.4).
-use Rattle.std.specs.Prelude.{◌≡◌, ℕ, Bool, true, false, List, [], ◌∷◌, ◌++◌, Some}
+use Rattle.std.specs.Prelude.{◌≡◌, ℕ, Bool, true, false, List, [], ◌∷◌, ◌++◌, Option, Some, None}
 use Rattle.hr_base.specs.declared.lexeme.Class.{Class}
+use Rattle.hr_base.specs.declared.lexeme.Item.{Item}
+use Rattle.hr_base.specs.declared.lexeme.Items.{Items}
 use Rattle.hr_rules.specs.Lexemes.{class_of, LexesText}
 
 -- a test has told whether this is so
@@ -21,3 +23,18 @@ AreApart before text =
           ∷ record { trivia = []; lexeme = record { class = other; text = text } } ∷ [];
       tail = [];
     })
+
+-- these are the items of the text, if it has any
+abbrev pub HasItems : List ℕ → Option Items → Type 0
+HasItems text (Some items) = LexesText text items
+HasItems text None = (items : Items) → ¬ (LexesText text items)
+
+-- the only lexeme is a variable identifier of this text
+abbrev pub IsWord : List Item → List ℕ → Type 0
+IsWord (only ∷ []) text = (only.lexeme.class ≡ Class.VarId) × (only.lexeme.text ≡ text)
+IsWord _ text = ⊥
+
+-- the lexemes are two of these texts
+abbrev pub AreLexemes : List Item → List ℕ → List ℕ → Type 0
+AreLexemes (first ∷ second ∷ []) before text = (first.lexeme.text ≡ before) × (second.lexeme.text ≡ text)
+AreLexemes _ before text = ⊥

@@ -3,6 +3,7 @@ ghost use Rattle.std.specs.Prelude.{◌≡◌, ◌<◌, ◌≤◌, length, IfSom
 ghost use Rattle.std.specs.List.{prefix_len};
 ghost use Rattle.hr_rules.specs.Letters.{is_blank};
 ghost use Rattle.hr_rules.specs.Quotes.{code_len, control_len, escape_len, gap_len, is_code, is_control_letter, string_escape_len};
+ghost use Rattle.hr_lexer.specs.QuoteReader.{marked_len};
 
 use crate::numbers::{digits_len, value_capped};
 use crate::tables::control_name_len;
@@ -21,6 +22,15 @@ pub fn escape_len(text: &[char]) -> Option<usize>
         [] => None,
         [c, ..] if LETTERS.contains(c) => Some(1),
         [c, ..] if c.is_ascii_digit() => code_len(10, text),
+        _ => marked_len(text),
+    }
+}
+
+/// The length of an escape that begins with `o`, `x` or `^`, or is the name of a control.
+fn marked_len(text: &[char]) -> Option<usize>
+    ensures { result ≡ marked_len text.now }
+{
+    match text {
         ['o', rest @ ..] => Some(code_len(8, rest)? + 1),
         ['x', rest @ ..] => Some(code_len(16, rest)? + 1),
         ['^', rest @ ..] => control_len(rest),

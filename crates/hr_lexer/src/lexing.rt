@@ -3,7 +3,9 @@ ghost use Rattle.std.specs.Prelude.{◌≡◌, ◌<◌, ◌≤◌, ◌++◌, ◌
 ghost use Rattle.std.specs.Str.{all_scalars, encode_utf8_all};
 ghost use Rattle.hr_rules.specs.Lexemes.{class_of, is_piece, bars, led_by, LexesText};
 ghost use Rattle.hr_rules.specs.Lexing.{Lexes};
-ghost use Rattle.hr_lexer.specs.Refusals.{cause_of, IsCause, IsHalt, IsStop, OrMemory};
+ghost use Rattle.hr_base.specs.declared.lexeme.Items.{Items};
+ghost use Rattle.hr_lexer.specs.declared.error.LexError.{LexError};
+ghost use Rattle.hr_lexer.specs.Refusals.{cause_of, longest_text, IsCause, IsHalt, IsStop, OrMemory, Reads, Refuses};
 ghost use Rattle.hr_lexer.specs.Marks.{mark_count};
 ghost use Rattle.hr_lexer.specs.LexemeReader.{lexeme_at, special_at};
 
@@ -25,6 +27,8 @@ const LONGEST_TEXT: usize = 1_048_576;
 pub fn lex(alloc: Global, bytes: &[u8]) -> Result<Items, LexError>
     ensures read { IfOk result (λ items. LexesText bytes.now items) }
     ensures refused { IfErr result (OrMemory (IsCause bytes.now)) }
+    ensures exact { (error : LexError) → IsCause bytes.now error → Refuses error result }
+    ensures whole { (items : Items) → LexesText bytes.now items → length bytes.now ≤ longest_text → Reads items result }
 {
     if bytes.len() > LONGEST_TEXT {
         return Err(LexError::TooLong);

@@ -1,8 +1,6 @@
-use Rattle.std.proofs.Common.{rules, ◌≡◌, ◌≢◌, ◌≤◌, ◌+◌, ◌-◌, ◌==◌, ◌++◌, ◌∷◌, [], ℕ, Bool, true, false, List, length, take, drop, Some, None, sym, ap, subst, ◌∙◌, arith}
+use Rattle.std.proofs.Common.{rules, ◌≡◌, ◌≢◌, ◌≤◌, ◌+◌, ◌-◌, ◌==◌, ◌++◌, ◌∷◌, [], ℕ, Bool, true, false, List, length, drop, sym, ap, subst, ◌∙◌, arith}
 use lib.Utf8.{scalars, encodes}
-use Rattle.hr_base.specs.declared.lexeme.Item.{Item}
-use Rattle.hr_lexer.specs.LexemeReader.{lexeme_at}
-use Rattle.hr_lexer.specs.Refusals.{cause_of, IsHalt}
+use Rattle.hr_lexer.specs.Refusals.{IsHalt}
 use Rattle.hr_lexer.proofs.Bytes.{scalars_drop}
 use Rattle.hr_lexer.proofs.Steps.{stepped, halted, finished, back_len}
 use Rattle.hr_lexer.proofs.Instances.{readers}
