@@ -45,7 +45,7 @@ within_or_over tree module_name pos new text lexeme item items renamed may respe
     let target : Items = items_of renamed.target in
     let name = one_name tree module_name pos renamed.lexeme lexeme renamed.item item renamed.may.name may.name in
     let here : Respelled tree lexeme item.lexeme.text new target =
-      subst (λ i. Respelled tree lexeme i.lexeme.text new target) name.1 (subst (λ n. Respelled tree n renamed.item.lexeme.text new target) name.0 renamed.is_target.respelled)
+    subst (λ i. Respelled tree lexeme i.lexeme.text new target) name.1 (subst (λ n. Respelled tree n renamed.item.lexeme.text new target) name.0 renamed.is_target.respelled)
     in
     let same : target ≡ items = one_target new (occurrences_of (owner_at tree lexeme item.lexeme.text) item.lexeme.text tree) (items_of tree) target items here respelled in
     let joins : text ≡ joined items.list items.tail = readings_join_lem text target renamed.is_target.reads ∙ ap (λ x. joined x.list x.tail) same in

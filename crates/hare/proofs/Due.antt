@@ -1,5 +1,5 @@
 -- The status of a run is the one that words and files lead to, unless something failed.
-use Rattle.std.proofs.Common.{◌≡◌, ◌≢◌, ◌⊎◌, inl, inr, ℕ, List, Option, Some, None, sym, ◌∙◌, refl, subst}
+use Rattle.std.proofs.Common.{◌≡◌, ◌≢◌, ◌⊎◌, inl, inr, ℕ, List, Option, Some, None, ◌∙◌, refl, subst}
 use Rattle.std.specs.FinMap.{get}
 use Rattle.hr_shelf.specs.Outside.{Files, HoldsMore, Reads, Rose, ToldOr}
 use Rattle.hr_plain.specs.Renaming.{module_limit}

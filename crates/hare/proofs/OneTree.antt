@@ -1,7 +1,6 @@
 -- A text of the plain form has one tree.
 use Rattle.std.proofs.Common.{◌≡◌, ℕ, List, Option, Some, sym, ap, ◌∙◌}
 use Rattle.hr_base.specs.declared.lexeme.Item.{Item}
-use Rattle.hr_base.specs.declared.lexeme.Items.{Items}
 use Rattle.hr_rules.proofs.Reading.{one_reading_lem}
 use Rattle.hr_tree.specs.declared.tree.Equation.{Equation}
 use Rattle.hr_tree.specs.declared.tree.Module.{Module}

@@ -1,4 +1,4 @@
-use Rattle.std.proofs.Common.{rules, ◌≡◌, refl, sym, subst}
+use Rattle.std.proofs.Common.{rules, ◌≡◌, refl, subst}
 use Rattle.std.specs.String.{string_bytes}
 use Rattle.hr_shelf.specs.Outside.{MayRefuse, Rose}
 use Rattle.hare.proofs.Ends.{moved, reported, absent, failed}

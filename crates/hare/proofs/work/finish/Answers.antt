@@ -1,4 +1,4 @@
-use Rattle.std.proofs.Common.{rules, ◌≡◌, refl, sym, ap, ◌∙◌}
+use Rattle.std.proofs.Common.{ap, ◌∙◌}
 use Rattle.hr_shelf.specs.Outside.{replaced}
 use Rattle.hare.proofs.Ends.{told}
 use Rattle.hare.specs.Shown.{shown}

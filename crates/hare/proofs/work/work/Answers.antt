@@ -1,4 +1,4 @@
-use Rattle.std.proofs.Common.{rules, ◌≡◌, refl, Some}
+use Rattle.std.proofs.Common.{◌≡◌, refl, Some}
 use Rattle.std.specs.String.{string_bytes}
 use Rattle.hare.proofs.Ends.{reported}
 use Rattle.hare.specs.Report as report
