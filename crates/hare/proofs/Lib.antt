@@ -1,2 +1,6 @@
+mod Causes
+mod Due
 mod Ends
 mod Numbers
+mod OneTarget
+mod OneTree

@@ -1,5 +1,5 @@
 -- The value of digits never falls as more of them are read.
-use Rattle.std.proofs.Common.{◌≡◌, ℕ, ◌+◌, ◌-◌, ◌*◌, ◌<◌, ◌≤◌, List, [], ◌∷◌, Bool, true, false, nat_le, fold, drop, length, get_or, arith, sym, ap, ◌∙◌, add-one, drop-cons, refl, Option, Some, None, if◌then◌else◌}
+use Rattle.std.proofs.Common.{◌≡◌, ℕ, ◌+◌, ◌-◌, ◌*◌, ◌<◌, ◌≤◌, List, [], ◌∷◌, true, false, nat_le, fold, drop, length, get_or, arith, sym, ap, ◌∙◌, add-one, drop-cons, refl, Option, Some, None, if◌then◌else◌}
 use Rattle.std.proofs.lemmas.Bool.Decides.{nat_tests}
 
 pub grows : (n : ℕ) (digits : List ℕ) → n ≤ fold (λ n c. n * 10 + (c - 48)) n digits

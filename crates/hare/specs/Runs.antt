@@ -1,5 +1,5 @@
 -- How a run ends: what each status says of the words, of the files and of the report.
-use Rattle.std.specs.Prelude.{◌≡◌, ℕ, List, Option, Some, None, ◌⊎◌}
+use Rattle.std.specs.Prelude.{◌≡◌, ◌≢◌, ◌≤◌, ℕ, List, length, Option, Some, None, ◌⊎◌}
 use Rattle.std.specs.FinMap.{get}
 use Rattle.hr_shelf.specs.Outside.{Files, HoldsMore, Reads, Rose, ToldOr, replaced, appended, AppendsPrefix}
 use Rattle.hr_tree.specs.declared.tree.Module.{Module}
@@ -47,6 +47,7 @@ pub record IsRefused (renaming : Renaming) (old : List ℕ) (why : Why) : Type 0
 pub record IsRead (words : List (List ℕ)) (before : Outside) (renaming : Renaming) (old : List ℕ) : Type 0 where
   pub good : AreGood words renaming
   pub reads : Reads before.told renaming.file old
+  pub within : length old ≤ module_limit
 
 -- what each status says, where the report is written whole, of the words, of the files, of the causes and of the
 -- report's text; a status that says nothing of a report doesn't come so
@@ -90,6 +91,35 @@ Ends words before after ReportFault =
     × ((status : Status) × (text : List ℕ) × EndsWith words before after status text × AppendsPrefix before.written after.written text)
 Ends words before after Memory = (after.told ≡ before.told) × (after.written ≡ before.written)
 Ends words before after status = Told words before after status
+
+-- these files have the bytes under the name, and not too many
+abbrev pub Holds : Files → List ℕ → List ℕ → Type 0
+Holds files file old = (get files file ≡ Some old) × (length old ≤ module_limit)
+
+-- the status that words and files lead to where no read, replace or write fails and there is memory
+abbrev pub IsDue : List (List ℕ) → Files → Status → Type 0
+IsDue words files Done = (renaming : Renaming) × (old new : List ℕ) × AreGood words renaming × Holds files renaming.file old × IsStep renaming old new
+IsDue words files StepRefused =
+    (renaming : Renaming) × (old : List ℕ) × (why : Why) × AreGood words renaming × Holds files renaming.file old × IsRefused renaming old why
+    × (report.refused renaming why ≢ None)
+IsDue words files BadWords = renaming_of words ≡ None
+IsDue words files BadScript = ⊥
+IsDue words files NotAccepted =
+    (renaming : Renaming) × (old : List ℕ) × (error : LoadError) × AreGood words renaming × Holds files renaming.file old × IsLoadRefusal old error
+    × (report.not_accepted renaming error ≢ None)
+IsDue words files ReadFault = (renaming : Renaming) × AreGood words renaming × (get files renaming.file ≡ None)
+IsDue words files WriteFault = ⊥
+IsDue words files ReportFault = ⊥
+IsDue words files Memory = ⊥
+IsDue words files OverLimit = (renaming : Renaming) × AreGood words renaming × HoldsMore files renaming.file module_limit
+
+-- the run ended with the status that was due, or a read, a replace or a write failed, or there was no memory
+abbrev pub Answers : Outside → Outside → Status → Status → Type 0
+Answers before after due status =
+    (status ≡ due)
+    ⊎ (((status ≡ ReadFault) × Rose before.read_faults after.read_faults)
+    ⊎ (((status ≡ WriteFault) × (due ≡ Done) × Rose before.replace_faults after.replace_faults)
+    ⊎ (((status ≡ ReportFault) × Rose before.write_faults after.write_faults) ⊎ (status ≡ Memory))))
 
 -- a piece was written and the status stands, or the sink refused it
 abbrev pub Reported : Option (List ℕ) → Option (List ℕ) → ℕ → ℕ → List ℕ → Status → Status → Type 0

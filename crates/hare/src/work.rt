@@ -1,8 +1,10 @@
-ghost use Rattle.std.specs.Prelude.{◌≡◌, ℕ, List, map, MatchResult};
+ghost use Rattle.std.specs.Prelude.{◌≡◌, ◌≤◌, ℕ, List, length, map, MatchResult, Some};
 ghost use Rattle.std.specs.String.{string_bytes};
-ghost use Rattle.hr_shelf.specs.Outside.{IsReady, Reads};
+ghost use Rattle.hr_shelf.specs.Outside.{Files, IsReady, Reads};
+ghost use Rattle.hr_plain.specs.Renaming.{module_limit};
 ghost use Rattle.hr_plain.specs.Form.{IsPlain};
-ghost use Rattle.hare.specs.Runs.{AreGood, Ends, IsStep, Reported, outside};
+ghost use Rattle.hare.specs.declared.status.Status.{Status};
+ghost use Rattle.hare.specs.Runs.{Answers, AreGood, Ends, IsDue, IsStep, Reported, outside};
 ghost use Rattle.hare.specs.Shown.{shown};
 ghost use Rattle.hare.specs.Steps.{IsOutcome};
 
@@ -18,6 +20,19 @@ use std::alloc::{AllocError, Global};
 /// Does what the words say: reads the file, carries out the command, replaces the file and writes
 /// the report. The status says how far that came.
 pub fn refactor<S: Shelf, K: Sink>(
+    alloc: Global,
+    words: &[String],
+    shelf: &mut S,
+    out: &mut K,
+) -> Status
+    ensures only { Ends (map string_bytes words.now) (outside (S.told shelf.old) (S.read_faults shelf.old) (S.replace_faults shelf.old) (K.written out.old) (K.faults out.old)) (outside (S.told shelf.new) (S.read_faults shelf.new) (S.replace_faults shelf.new) (K.written out.new) (K.faults out.new)) result }
+    ensures due { (files : Files) (due : Status) → S.told shelf.old ≡ Some files → IsDue (map string_bytes words.now) files due → Answers (outside (S.told shelf.old) (S.read_faults shelf.old) (S.replace_faults shelf.old) (K.written out.old) (K.faults out.old)) (outside (S.told shelf.new) (S.read_faults shelf.new) (S.replace_faults shelf.new) (K.written out.new) (K.faults out.new)) due result }
+{
+    carried_out(alloc, words, shelf, out)
+}
+
+/// The same; that the status is the one that is due follows.
+fn carried_out<S: Shelf, K: Sink>(
     alloc: Global,
     words: &[String],
     shelf: &mut S,
@@ -56,6 +71,7 @@ fn work<S: Shelf, K: Sink>(
 ) -> Status
     requires ready { IsReady (S.ready shelf.old) command.file.now }
     requires read { Reads (S.told shelf.old) command.file.now bytes.now }
+    requires within { length bytes.now ≤ module_limit }
     ensures { (words : List (List ℕ)) (reads : ℕ) → AreGood words (shown command.entry) → Ends words (outside (S.told shelf.old) reads (S.replace_faults shelf.old) (K.written out.old) (K.faults out.old)) (outside (S.told shelf.new) (S.read_faults shelf.new) (S.replace_faults shelf.new) (K.written out.new) (K.faults out.new)) result }
 {
     match stepped(alloc, command, bytes) {
@@ -112,6 +128,7 @@ fn finish<S: Shelf, K: Sink>(
 ) -> Status
     requires ready { IsReady (S.ready shelf.old) command.file.now }
     requires read { Reads (S.told shelf.old) command.file.now bytes.now }
+    requires within { length bytes.now ≤ module_limit }
     requires step { IsStep (shown command) bytes.now new }
     ensures { (words : List (List ℕ)) (reads : ℕ) → AreGood words (shown command.entry) → Ends words (outside (S.told shelf.old) reads (S.replace_faults shelf.old) (K.written out.old) (K.faults out.old)) (outside (S.told shelf.new) (S.read_faults shelf.new) (S.replace_faults shelf.new) (K.written out.new) (K.faults out.new)) result }
 {

@@ -1,4 +1,4 @@
-use Rattle.std.proofs.Common.{rules, ◌≡◌, refl, sym, ap, ◌∙◌}
+use Rattle.std.proofs.Common.{ap, ◌∙◌}
 use Rattle.hr_shelf.specs.Outside.{replaced}
 use Rattle.hare.proofs.Ends.{told}
 use Rattle.hare.specs.Shown.{shown}
@@ -11,7 +11,7 @@ returns-in-Ok-replace g c words reads good =
       shown c.args.command,
       c.args.bytes.now,
       c.args.new,
-      record { good = good; reads = c.requires.read },
+      record { good = good; reads = c.requires.read; within = c.requires.within },
       c.requires.step,
       c.in-Ok-replace.ensures.puts ∙ ap (replaced (g.S.Shelf.told c.args.shelf.now) c.args.command.file.now) c.new.view_is,
       c.in-Ok.ensures,
@@ -24,7 +24,7 @@ returns-in-Err g c words reads good =
       shown c.args.command,
       c.args.bytes.now,
       c.args.new,
-      record { good = good; reads = c.requires.read },
+      record { good = good; reads = c.requires.read; within = c.requires.within },
       c.requires.step,
       c.in-Err.ensures.cause,
       c.in-Err.ensures.stays,

@@ -1,0 +1,49 @@
+-- The status of a run is the one that words and files lead to, unless something failed.
+use Rattle.std.proofs.Common.{◌≡◌, ◌≢◌, ◌⊎◌, inl, inr, ℕ, List, Option, Some, None, ◌∙◌, refl, subst}
+use Rattle.std.specs.FinMap.{get}
+use Rattle.hr_shelf.specs.Outside.{Files, HoldsMore, Reads, Rose, ToldOr}
+use Rattle.hr_plain.specs.Renaming.{module_limit}
+use Rattle.hare.specs.declared.status.Status.{Status}
+use Rattle.hare.specs.Runs.{Outside, AreGood, Ends, Holds, IsDue, IsRead, Answers}
+use Rattle.hare.specs.Words.{Renaming}
+use Rattle.hare.proofs.Causes.{one_due}
+
+-- a report is told only of what has one
+is_told : (text : List ℕ) (line : Option (List ℕ)) → Some text ≡ line → line ≢ None
+is_told text line e none = let bad : ◌≡◌ {A = Option (List ℕ)} (Some text) None = e ∙ none in cc
+
+module _ (words : List (List ℕ)) (before after : Outside) (files : Files) (due : Status) (told : before.told ≡ Some files) (is : IsDue words files due) where
+  -- the file that was read is among the files that are told
+  holds : (renaming : Renaming) (old : List ℕ) → IsRead words before renaming old → Holds files renaming.file old
+  holds renaming old read = (subst (λ t. Reads t renaming.file old) told read.reads, read.within)
+
+  -- a status that is due is the one that is
+  due_is : (status : Status) → IsDue words files status → Answers before after due status
+  due_is status p = inl (one_due words files status due p is)
+
+  read_fault : (renaming : Renaming) → AreGood words renaming → (get files renaming.file ≡ None) ⊎ Rose before.read_faults after.read_faults → Answers before after due Status.ReadFault
+  read_fault renaming good (inl none) = due_is Status.ReadFault (renaming, good, none)
+  read_fault renaming good (inr rose) = inr (inl (refl, rose))
+
+  answers_by : (status : Status) → Ends words before after status → Answers before after due status
+  answers_by Status.Done (text, (renaming, old, new, read, step, now, line), written) = due_is Status.Done (renaming, old, new, read.good, holds renaming old read, step)
+  answers_by Status.StepRefused (text, (renaming, old, why, read, refused, now, line), written) =
+      due_is Status.StepRefused (renaming, old, why, read.good, holds renaming old read, refused, is_told text _ line)
+  answers_by Status.BadWords (text, (none, now, line), written) = due_is Status.BadWords none
+  answers_by Status.BadScript (text, ends, written) = absurd ends
+  answers_by Status.NotAccepted (text, (renaming, old, error, read, refusal, now, line), written) =
+      due_is Status.NotAccepted (renaming, old, error, read.good, holds renaming old read, refusal, is_told text _ line)
+  answers_by Status.ReadFault (text, (renaming, good, fault, now, line), written) =
+      let rose = Rose before.read_faults after.read_faults in
+      read_fault renaming good (subst (λ t. ToldOr t (λ known. (get known renaming.file ≡ None) ⊎ rose) rose) told fault)
+  answers_by Status.WriteFault (text, (renaming, old, new, read, step, rose, now, line), written) =
+      let done : due ≡ Status.Done = one_due words files due Status.Done is (renaming, old, new, read.good, holds renaming old read, step) in
+      inr (inr (inl (refl, done, rose)))
+  answers_by Status.ReportFault (rose, ends) = inr (inr (inr (inl (refl, rose))))
+  answers_by Status.Memory ends = inr (inr (inr (inr refl)))
+  answers_by Status.OverLimit (text, (renaming, good, more, now, line), written) =
+      let rose = Rose before.read_faults after.read_faults in
+      due_is Status.OverLimit (renaming, good, subst (λ t. ToldOr t (λ known. HoldsMore known renaming.file module_limit) rose) told more)
+
+pub answers : (words : List (List ℕ)) (before after : Outside) (files : Files) (due result : Status) → before.told ≡ Some files → IsDue words files due → Ends words before after result → Answers before after due result
+answers words before after files due result told is ends = answers_by words before after files due told is result ends
