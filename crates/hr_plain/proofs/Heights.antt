@@ -62,3 +62,5 @@ pub atoms_end : (exp : Exp) (atoms items : List Exp) (place limit : ℕ) → exp
 atoms_end exp atoms items place limit x same h past kept =
     ap (λ e. nat_le (height_of e) limit) (x ∙ ap Apply (sym same)) ∙ apply_within items limit h ∙ sym kept
     ∙ ap (list_all (λ e. nat_le (height_of e) (limit - 1))) (drop_of_length-le items past)
+
+pub ruleset within = (variable_within, integer_within, group_within, apply_within, none_within)
