@@ -8,7 +8,7 @@ mod Loaded
 mod Marks
 mod Nodes
 mod Parting
-mod Parts
+pub mod Parts
 mod ReadsAlone
 mod ReadsFit
 mod ReadsForm
