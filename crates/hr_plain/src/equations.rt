@@ -5,7 +5,7 @@ use crate::loading::LoadError;
 use crate::rest::{Rest, is_integer, is_mark, is_variable};
 use crate::starts::starts;
 use hr_base::{Item, Seq};
-use hr_tree::Equation;
+use hr_plain_tree::Equation;
 use std::alloc::Global;
 use std::mem;
 

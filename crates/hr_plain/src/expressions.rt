@@ -3,7 +3,7 @@ ghost use Rattle.std.specs.Prelude.{◌<◌, ◌≤◌, length, OnOk};
 use crate::loading::LoadError;
 use crate::rest::{Rest, is_integer, is_mark, is_variable};
 use hr_base::Item;
-use hr_tree::Exp;
+use hr_plain_tree::Exp;
 use sqlite_items::{Boxed, Items as Children};
 use std::alloc::Global;
 

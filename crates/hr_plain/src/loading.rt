@@ -2,7 +2,7 @@ use crate::equations::equations;
 use crate::scoping::is_scoped;
 use hr_base::Items;
 use hr_lexer::{LexError, lex};
-use hr_tree::Module;
+use hr_plain_tree::Module;
 use std::alloc::{AllocError, AllocFailed, Global};
 use thiserror::Error;
 

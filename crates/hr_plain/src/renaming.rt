@@ -1,5 +1,5 @@
 ghost use Rattle.std.specs.Prelude.{◌≡◌, IfOk, IfSome};
-ghost use Rattle.hr_tree.specs.Yields.{items_of};
+ghost use Rattle.hr_plain_tree.specs.Yields.{items_of};
 ghost use Rattle.hr_plain.specs.Renaming.{IsFound, IsRenamed, Renames, is_spelled};
 
 use crate::binding::{occurrences, owner_of};
@@ -7,7 +7,7 @@ use crate::rest::is_variable;
 use crate::writing::{is_varid, respelled};
 use hr_base::{Items, Place, Pos, Text};
 use hr_rules::join;
-use hr_tree::{Module, at};
+use hr_plain_tree::{Module, at};
 use std::alloc::{AllocError, Global};
 
 /// How many bytes the text of a module may have.
@@ -60,7 +60,7 @@ pub fn rename(
 ) -> Result<Text, Why>
     ensures { IfOk result (IsRenamed tree.now «module».now pos new.now) }
 {
-    let items = hr_tree::items(alloc, tree).map_err(Why::Memory)?;
+    let items = hr_plain_tree::items(alloc, tree).map_err(Why::Memory)?;
     let Some((lexeme, old)) = named_at(tree, &items, module, pos) else {
         return Err(nothing_at(module, pos));
     };

@@ -1,6 +1,6 @@
 use crate::rest::is_variable;
 use hr_base::Item;
-use hr_tree::{Equation, Exp, Module};
+use hr_plain_tree::{Equation, Exp, Module};
 use std::alloc::{AllocError, Global};
 use std::collections::BTreeSet;
 
