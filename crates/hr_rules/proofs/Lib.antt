@@ -1,6 +1,10 @@
 pub mod Apart
 pub mod Behind
+pub mod BlockEnds
 pub mod GoOn
 pub mod Lexing
+pub mod Margins
 pub mod Reading
+pub mod Spellings
 pub mod Stops
+pub mod Within

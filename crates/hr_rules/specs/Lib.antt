@@ -1,3 +1,6 @@
+pub mod BlockLaws
+pub mod Blocks
+pub mod CanFollow
 pub mod Comments
 pub mod Counted
 pub mod Letters
@@ -10,5 +13,6 @@ pub mod PositionLaws
 pub mod Positions
 pub mod Qualified
 pub mod Quotes
+pub mod Roles
 pub mod Runs
 pub mod Stops

@@ -2,12 +2,21 @@
 //! items, and the text that items make.
 #![tactic(auto)]
 
+mod block;
+mod block_laws;
 mod character;
 mod items;
 mod laws;
 mod position_laws;
 mod positions;
+mod role;
+mod words;
 
+pub use block::{BlockKind, OpenBlock, Opened, Placed};
+pub use block_laws::{
+    columns_from_one, ends_stop, items_are_placed, margins_divide, parts_do_not_end,
+    semicolons_do_not_end,
+};
 pub use character::{
     Kind, continues_name, is_blank_char, is_in_name, is_newline, is_symbol, kind_of,
 };
@@ -18,3 +27,5 @@ pub use laws::{
 };
 pub use position_laws::{behind_goes_on, positions_go_on};
 pub use positions::{Reached, has_newline};
+pub use role::{Role, role_of};
+pub use words::{is_one_of, is_spelled};
