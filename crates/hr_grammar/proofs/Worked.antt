@@ -1,5 +1,5 @@
 -- Trees of worked texts are trees of the grammar.
-use Rattle.std.proofs.Common.{refl, inl, inr, [], ◌∷◌, ◌≢◌, List}
+use Rattle.std.proofs.Common.{refl, inl, [], ◌∷◌, ◌≢◌, List}
 use Rattle.hr_tree.specs.declared.types.Ty.TheViews.{out-Ty}
 use Rattle.hr_tree.specs.declared.patterns.Pat.TheViews.{out-Pat}
 use Rattle.hr_tree.specs.declared.expressions.Decl.TheViews.{out-Exp, out-Decl}

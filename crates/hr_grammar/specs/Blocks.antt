@@ -1,7 +1,6 @@
 -- Blocks: the Haskell 98 Report, sections 2.7 and 9.3. An implicit block has no braces in the tree; where
 -- its parts may begin, the layout rule says.
-use Rattle.std.specs.Prelude.{ℕ, List, [], ◌∷◌}
-use Rattle.hr_tree.specs.declared.lists.Block.{Block}
+use Rattle.std.specs.Prelude.{List, [], ◌∷◌}
 use Rattle.hr_tree.specs.declared.lists.Layout.{Layout}
 use Rattle.hr_tree.specs.declared.lists.Piece.{Piece}
 use Rattle.hr_grammar.specs.Words.{IsLeftBrace, IsRightBrace, IsSemicolon}

@@ -6,12 +6,6 @@ use lib.Chars.{codes}
 use Rattle.hr_base.specs.declared.lexeme.Class.{Class}
 use Rattle.hr_base.specs.declared.lexeme.Item.{Item}
 use Rattle.hr_rules.specs.Names.{is_one_of}
-use Rattle.hr_tree.specs.declared.lists.Block.{Block}
-use Rattle.hr_tree.specs.declared.lists.Piece.{Piece}
-use Rattle.hr_tree.specs.declared.lists.Listed.{Listed}
-use Rattle.hr_tree.specs.declared.names.Variable.{Variable}
-use Rattle.hr_tree.specs.declared.names.Operator.{Operator}
-use Rattle.hr_tree.specs.declared.types.Ty.{Ty}
 use Rattle.hr_tree.specs.declared.patterns.Pat.{Pat}
 use Rattle.hr_tree.specs.declared.declarations.TypeHead.{TypeHead}
 use Rattle.hr_tree.specs.declared.declarations.Construction.{Construction}

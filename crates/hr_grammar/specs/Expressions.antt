@@ -1,5 +1,5 @@
 -- Expressions: the Haskell 98 Report, sections 3.2 to 3.13 and 3.16, without `do`, fields and floats.
-use Rattle.std.specs.Prelude.{◌≡◌, ◌≢◌, Bool, true, false, List, [], ◌∷◌, length, Option, Some, None, IsSome}
+use Rattle.std.specs.Prelude.{◌≡◌, ◌≢◌, Bool, true, false, List, [], ◌∷◌, length, Some, None, IsSome}
 use Rattle.std.specs.List.{AllByRecursion}
 use lib.Chars.{codes}
 use Rattle.hr_tree.specs.declared.lists.Operand.{Operand}

@@ -1,6 +1,6 @@
 -- The places of the grammar, and what may stand at them. A production is said over the nodes that stand
 -- one level deeper, so nothing here goes in a circle.
-use Rattle.std.specs.Prelude.{ℕ, Bool, true, false}
+use Rattle.std.specs.Prelude.{Bool}
 use Rattle.hr_tree.specs.declared.types.Ty.{Ty}
 use Rattle.hr_tree.specs.declared.patterns.Pat.{Pat}
 use Rattle.hr_tree.specs.declared.expressions.Exp.{Exp}

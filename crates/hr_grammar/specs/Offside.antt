@@ -1,10 +1,7 @@
 -- The layout rule on a whole tree (Haskell 98 Report, sections 2.7 and 9.3): where its blocks without braces
 -- may stand.
-use Rattle.std.specs.Prelude.{ℕ, zero, suc, ◌+◌, ◌≡◌, ◌⊎◌, ◌<◌, ◌≤◌, Bool, true, false, ◌&&◌, ◌||◌, ◌==◌, nat_lt, nat_le, List, [], ◌∷◌, ◌++◌, length, drop, Option, Some, None}
+use Rattle.std.specs.Prelude.{ℕ, zero, suc, ◌+◌, ◌≡◌, ◌⊎◌, ◌<◌, ◌≤◌, Bool, true, false, ◌&&◌, ◌||◌, ◌==◌, nat_lt, nat_le, List, [], ◌∷◌, drop}
 use Rattle.std.specs.List.{AllByRecursion, list_any}
-use Rattle.hr_base.specs.declared.lexeme.Ending.{Ending}
-use Rattle.hr_base.specs.declared.lexeme.Item.{Item}
-use Rattle.hr_rules.specs.declared.block.BlockKind.{BlockKind}
 use Rattle.hr_rules.specs.declared.block.Placed.{Placed}
 use Rattle.hr_rules.specs.Blocks.{placed_of, at_margin, ends_block}
 use Rattle.hr_tree.specs.declared.lists.Layout.{Layout}

@@ -1,5 +1,5 @@
 -- Patterns: the Haskell 98 Report, section 3.17, without n+k patterns and labelled fields.
-use Rattle.std.specs.Prelude.{◌≡◌, ◌≢◌, Bool, true, false, List, [], ◌∷◌, length, Option, Some, None}
+use Rattle.std.specs.Prelude.{◌≡◌, ◌≢◌, Bool, true, false, List, [], ◌∷◌, length, Some, None}
 use Rattle.std.specs.List.{AllByRecursion}
 use lib.Chars.{codes}
 use Rattle.hr_tree.specs.declared.lists.Operand.{Operand}

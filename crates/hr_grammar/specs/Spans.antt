@@ -14,7 +14,6 @@ use Rattle.hr_tree.specs.declared.lists.Field.{Field}
 use Rattle.hr_tree.specs.declared.declarations.Body.{Body}
 use Rattle.hr_tree.specs.declared.declarations.Guarded.{Guarded}
 use Rattle.hr_tree.specs.declared.declarations.Where.{Where}
-use Rattle.hr_tree.specs.declared.expressions.Exp.{Exp}
 use Rattle.hr_tree.specs.declared.expressions.Decl.{Decl}
 use Rattle.hr_tree.specs.declared.expressions.Decl.TheOpen.{Decl-F, Exp-F, Qualifier-F, Alt-F}
 use Rattle.hr_tree.specs.declared.expressions.Decl.TheFolds.{fold-Decl}

@@ -1,5 +1,5 @@
 -- Trees of worked texts.
-use Rattle.std.specs.Prelude.{ℕ, true, List, [], ◌∷◌, Option, Some, None}
+use Rattle.std.specs.Prelude.{ℕ, List, [], ◌∷◌, Some, None}
 use lib.Chars.{codes}
 use Rattle.hr_base.specs.declared.lexeme.Class.{Class}
 use Rattle.hr_base.specs.declared.lexeme.Item.{Item}
@@ -14,7 +14,6 @@ use Rattle.hr_tree.specs.declared.patterns.Pat.TheVariants.{Variable as Bound, C
 use Rattle.hr_tree.specs.declared.expressions.Exp.{Exp}
 use Rattle.hr_tree.specs.declared.expressions.Exp.TheVariants.{Variable, Literal, Group, Infix, Annotated, Lambda, Let, If, Case, LeftSection}
 use Rattle.hr_tree.specs.declared.expressions.Alt.{Alt, roll-Alt}
-use Rattle.hr_tree.specs.declared.expressions.Decl.{Decl}
 use Rattle.hr_tree.specs.declared.expressions.Decl.TheVariants.{Binding}
 use Rattle.hr_tree.specs.declared.modules.Module.{Module}
 use Rattle.hr_grammar.specs.Yields.{IsModule, nesting_limit}
