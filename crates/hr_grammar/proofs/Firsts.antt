@@ -1,5 +1,5 @@
--- Which lexemes types and patterns begin with.
-use Rattle.std.proofs.Common.{◌≡◌, ◌⊎◌, ℕ, zero, suc, Bool, true, List, [], ◌∷◌, ◌++◌, refl, sym, ap, ap₂, ◌∙◌, subst, inl, inr}
+-- Which lexemes types, patterns and expressions begin with.
+use Rattle.std.proofs.Common.{◌≡◌, ◌⊎◌, ℕ, zero, suc, Bool, true, false, List, [], ◌∷◌, ◌++◌, Option, Some, None, refl, sym, ap, ap₂, ◌∙◌, subst, inl, inr}
 use lib.Chars.{codes}
 use Rattle.hr_base.specs.declared.lexeme.Class.{Class}
 use Rattle.hr_base.specs.declared.lexeme.Item.{Item}
@@ -15,15 +15,23 @@ use Rattle.hr_tree.specs.declared.patterns.Pat.{Pat, out-Pat, roll-Pat}
 use Rattle.hr_tree.specs.declared.patterns.Pat.TheOpen.{Pat-F}
 use Rattle.hr_tree.specs.declared.patterns.Pat.TheFolds.{fold-roll-Pat}
 use Rattle.hr_tree.specs.declared.patterns.Pat.TheViews.{roll-out-Pat}
+use Rattle.hr_tree.specs.declared.expressions.Exp.{Exp, out-Exp, roll-Exp}
+use Rattle.hr_tree.specs.declared.expressions.Decl.{Decl}
+use Rattle.hr_tree.specs.declared.expressions.Alt.{Alt}
+use Rattle.hr_tree.specs.declared.expressions.Qualifier.{Qualifier}
+use Rattle.hr_tree.specs.declared.expressions.Decl.TheOpen.{Exp-F}
+use Rattle.hr_tree.specs.declared.expressions.Decl.TheFolds.{fold-roll-Exp}
+use Rattle.hr_tree.specs.declared.expressions.Decl.TheViews.{roll-out-Exp}
 use Rattle.hr_tree.specs.Names.{constructor_items, variable_items, maybe_item, maybe_operator}
-use Rattle.hr_tree.specs.Yields.{ty_layer, ty_items, pat_layer, pat_items}
-use Rattle.hr_grammar.specs.Words.{IsOf, IsText, IsLiteral}
-use Rattle.hr_grammar.specs.Spelled.{IsTypeConstructor, IsConstructor, IsVariable}
-use Rattle.hr_grammar.specs.Nodes.{TyPlace, PatPlace}
+use Rattle.hr_tree.specs.Yields.{ty_layer, ty_items, pat_layer, pat_items, decl_layer, exp_layer, qualifier_layer, alt_layer, exp_items}
+use Rattle.hr_grammar.specs.Words.{IsOf, IsText, IsLiteral, IsMinus}
+use Rattle.hr_grammar.specs.Spelled.{Maybe, IsTypeConstructor, IsConstructor, IsVariable, IsNamedVariable}
+use Rattle.hr_grammar.specs.Nodes.{TyPlace, PatPlace, ExpPlace}
 use Rattle.hr_grammar.specs.Types.{TyProduction}
 use Rattle.hr_grammar.specs.Patterns.{PatProduction}
+use Rattle.hr_grammar.specs.Expressions.{ExpProduction, last_operand}
 use Rattle.hr_grammar.specs.Yields.{nodes}
-use Rattle.hr_grammar.specs.Firsts.{Begins, begins_type, begins_pattern, TypesBegin, PatternsBegin}
+use Rattle.hr_grammar.specs.Firsts.{Begins, begins_type, begins_pattern, begins_operand, opens_expression, BeginsExpression, TypesBegin, PatternsBegin, ExpressionsBegin}
 
 -- a first item by its class, and by its class and text
 of_class : (test : Role → Bool) (class : Class) (item : Item) → IsOf class item → test (role_by class item.lexeme.text) ≡ true → test (role_of item.lexeme) ≡ true
@@ -131,3 +139,90 @@ pub patterns_begin_lem : PatternsBegin
 patterns_begin_lem zero place pat is = elim is [ ]
 patterns_begin_lem (suc levels) place pat is =
     subst (λ p. Begins begins_pattern (pat_items p)) (roll-out-Pat pat) (pat_level levels (patterns_begin_lem levels) place (out-Pat pat) is)
+
+-- an expression, by its class and text
+opens_by : (class : Class) (text : List ℕ) (item : Item) → IsText class text item → opens_expression class text ≡ true → opens_expression item.lexeme.class item.lexeme.text ≡ true
+opens_by class text item is t = ap₂ opens_expression is.0 is.1 ∙ t
+
+expression_more : (items more : List Item) → BeginsExpression items → BeginsExpression (items ++ more)
+expression_more [] more b = elim b [ ]
+expression_more (item ∷ items) more b = b
+
+named_variable_begins : (used : Variable) → IsNamedVariable used → BeginsExpression (variable_items used)
+named_variable_begins (Variable.Name name) (inl is) = inl (of_class begins_operand Class.VarId name is refl)
+named_variable_begins (Variable.Name name) (inr is) = inl (of_class begins_operand Class.QVarId name is refl)
+named_variable_begins (Variable.Symbol left symbol right) is = inl (left_paren begins_operand refl left is.0)
+
+used_constructor_begins : (named : Constructor) → IsConstructor named → BeginsExpression (constructor_items named)
+used_constructor_begins (Constructor.Name name) is = inl (name_begins begins_operand refl name is)
+used_constructor_begins (Constructor.Symbol left symbol right) is = inl (left_paren begins_operand refl left is.0)
+used_constructor_begins (Constructor.Unit left right) is = inl (left_paren begins_operand refl left is.0)
+used_constructor_begins (Constructor.EmptyList left right) is = inl (left_square begins_operand refl left is.0)
+used_constructor_begins (Constructor.Tuple left commas right) is = inl (left_paren begins_operand refl left is.0)
+
+operand_literal : (item : Item) → IsLiteral item → begins_operand (role_of item.lexeme) ≡ true
+operand_literal item (inl is) = of_class begins_operand Class.Integer item is refl
+operand_literal item (inr (inl is)) = of_class begins_operand Class.Char item is refl
+operand_literal item (inr (inr is)) = of_class begins_operand Class.Str item is refl
+
+-- the first operand of a sequence, with a minus or without
+first_operand : (minus : Option Item) (items more : List Item) → Maybe IsMinus minus → BeginsExpression items → BeginsExpression (maybe_item minus ++ (items ++ more))
+first_operand None items more m b = expression_more items more b
+first_operand (Some minus) items more m b = inl (of_text begins_operand Class.VarSym (codes "-") minus m refl)
+
+exp_level : (levels : ℕ) → ((free : Bool) (place : ExpPlace) (exp : Exp) → (nodes levels).exp free place exp → BeginsExpression (exp_items exp))
+    → (free : Bool) (place : ExpPlace) (layer : Exp-F Decl Exp Qualifier Alt) → ExpProduction (nodes levels) free place layer → BeginsExpression (exp_items (roll-Exp layer))
+exp_level levels below free place (Exp-F.Variable used) is =
+    subst BeginsExpression (sym (fold-roll-Exp (List Item) (List Item) (List Item) (List Item) decl_layer exp_layer qualifier_layer alt_layer (Exp-F.Variable used))) (named_variable_begins used is)
+exp_level levels below free place (Exp-F.Constructor named) is =
+    subst BeginsExpression (sym (fold-roll-Exp (List Item) (List Item) (List Item) (List Item) decl_layer exp_layer qualifier_layer alt_layer (Exp-F.Constructor named))) (used_constructor_begins named is)
+exp_level levels below free place (Exp-F.Literal literal) is =
+    subst BeginsExpression (sym (fold-roll-Exp (List Item) (List Item) (List Item) (List Item) decl_layer exp_layer qualifier_layer alt_layer (Exp-F.Literal literal))) (inl (operand_literal literal is))
+exp_level levels below free place (Exp-F.Group left part right) is =
+    subst BeginsExpression (sym (fold-roll-Exp (List Item) (List Item) (List Item) (List Item) decl_layer exp_layer qualifier_layer alt_layer (Exp-F.Group left part right))) (inl (left_paren begins_operand refl left is.0))
+exp_level levels below free place (Exp-F.Tuple left parts right) is =
+    subst BeginsExpression (sym (fold-roll-Exp (List Item) (List Item) (List Item) (List Item) decl_layer exp_layer qualifier_layer alt_layer (Exp-F.Tuple left parts right))) (inl (left_paren begins_operand refl left is.0))
+exp_level levels below free place (Exp-F.List left parts right) is =
+    subst BeginsExpression (sym (fold-roll-Exp (List Item) (List Item) (List Item) (List Item) decl_layer exp_layer qualifier_layer alt_layer (Exp-F.List left parts right))) (inl (left_square begins_operand refl left is.0))
+exp_level levels below free place (Exp-F.From left first dots right) is =
+    subst BeginsExpression (sym (fold-roll-Exp (List Item) (List Item) (List Item) (List Item) decl_layer exp_layer qualifier_layer alt_layer (Exp-F.From left first dots right))) (inl (left_square begins_operand refl left is.0))
+exp_level levels below free place (Exp-F.FromThen left first comma second dots right) is =
+    subst BeginsExpression (sym (fold-roll-Exp (List Item) (List Item) (List Item) (List Item) decl_layer exp_layer qualifier_layer alt_layer (Exp-F.FromThen left first comma second dots right))) (inl (left_square begins_operand refl left is.0))
+exp_level levels below free place (Exp-F.FromTo left first dots last right) is =
+    subst BeginsExpression (sym (fold-roll-Exp (List Item) (List Item) (List Item) (List Item) decl_layer exp_layer qualifier_layer alt_layer (Exp-F.FromTo left first dots last right))) (inl (left_square begins_operand refl left is.0))
+exp_level levels below free place (Exp-F.FromThenTo left first comma second dots last right) is =
+    subst BeginsExpression (sym (fold-roll-Exp (List Item) (List Item) (List Item) (List Item) decl_layer exp_layer qualifier_layer alt_layer (Exp-F.FromThenTo left first comma second dots last right))) (inl (left_square begins_operand refl left is.0))
+exp_level levels below free place (Exp-F.Comprehension left part bar qualifiers right) is =
+    subst BeginsExpression (sym (fold-roll-Exp (List Item) (List Item) (List Item) (List Item) decl_layer exp_layer qualifier_layer alt_layer (Exp-F.Comprehension left part bar qualifiers right))) (inl (left_square begins_operand refl left is.0))
+exp_level levels below free place (Exp-F.LeftSection left part operator right) is =
+    subst BeginsExpression (sym (fold-roll-Exp (List Item) (List Item) (List Item) (List Item) decl_layer exp_layer qualifier_layer alt_layer (Exp-F.LeftSection left part operator right))) (inl (left_paren begins_operand refl left is.0))
+exp_level levels below free place (Exp-F.RightSection left operator part right) is =
+    subst BeginsExpression (sym (fold-roll-Exp (List Item) (List Item) (List Item) (List Item) decl_layer exp_layer qualifier_layer alt_layer (Exp-F.RightSection left operator part right))) (inl (left_paren begins_operand refl left is.0))
+exp_level levels below free place (Exp-F.Lambda mark patterns arrow body) is =
+    subst BeginsExpression (sym (fold-roll-Exp (List Item) (List Item) (List Item) (List Item) decl_layer exp_layer qualifier_layer alt_layer (Exp-F.Lambda mark patterns arrow body))) (inr (opens_by Class.ReservedOp (codes "\\") mark is.1 refl))
+exp_level levels below free place (Exp-F.Let word block in_word body) is =
+    subst BeginsExpression (sym (fold-roll-Exp (List Item) (List Item) (List Item) (List Item) decl_layer exp_layer qualifier_layer alt_layer (Exp-F.Let word block in_word body))) (inr (opens_by Class.ReservedId (codes "let") word is.1 refl))
+exp_level levels below free place (Exp-F.If word test then_word first else_word second) is =
+    subst BeginsExpression (sym (fold-roll-Exp (List Item) (List Item) (List Item) (List Item) decl_layer exp_layer qualifier_layer alt_layer (Exp-F.If word test then_word first else_word second))) (inr (opens_by Class.ReservedId (codes "if") word is.1 refl))
+exp_level levels below free place (Exp-F.Case word part of_word block) is =
+    subst BeginsExpression (sym (fold-roll-Exp (List Item) (List Item) (List Item) (List Item) decl_layer exp_layer qualifier_layer alt_layer (Exp-F.Case word part of_word block))) (inr (opens_by Class.ReservedId (codes "case") word is.1 refl))
+exp_level levels below free place (Exp-F.Annotated part colons ty) is =
+    subst BeginsExpression (sym (fold-roll-Exp (List Item) (List Item) (List Item) (List Item) decl_layer exp_layer qualifier_layer alt_layer (Exp-F.Annotated part colons ty))) (expression_more (exp_items part) _ (below true ExpPlace.Annotated part is.2))
+exp_level levels below free place (Exp-F.Apply []) is = elim is.1 [ ]
+exp_level levels below free place (Exp-F.Apply (atom ∷ atoms)) is =
+    subst BeginsExpression (sym (fold-roll-Exp (List Item) (List Item) (List Item) (List Item) decl_layer exp_layer qualifier_layer alt_layer (Exp-F.Apply (atom ∷ atoms)))) (expression_more (exp_items atom) _ (below free ExpPlace.Atom atom is.2.0))
+exp_level levels below free place (Exp-F.Infix []) is = elim is.1 [ ]
+exp_level levels below free place (Exp-F.Infix (operand ∷ [])) is =
+    subst BeginsExpression (sym (fold-roll-Exp (List Item) (List Item) (List Item) (List Item) decl_layer exp_layer qualifier_layer alt_layer (Exp-F.Infix (operand ∷ []))))
+    (expression_more (maybe_item operand.minus ++ (exp_items operand.part ++ maybe_operator operand.operator)) _
+    (first_operand operand.minus (exp_items operand.part) (maybe_operator operand.operator) is.2.0 (below free (last_operand place) operand.part is.2.1)))
+exp_level levels below free place (Exp-F.Infix (operand ∷ (next ∷ rest))) is =
+    subst BeginsExpression (sym (fold-roll-Exp (List Item) (List Item) (List Item) (List Item) decl_layer exp_layer qualifier_layer alt_layer (Exp-F.Infix (operand ∷ (next ∷ rest)))))
+    (expression_more (maybe_item operand.minus ++ (exp_items operand.part ++ maybe_operator operand.operator)) _
+    (first_operand operand.minus (exp_items operand.part) (maybe_operator operand.operator) is.2.0 (below free ExpPlace.Operand operand.part is.2.1)))
+exp_level levels below free place (Exp-F.Fields part left fields right) is = elim is [ ]
+
+pub expressions_begin_lem : ExpressionsBegin
+expressions_begin_lem zero free place exp is = elim is [ ]
+expressions_begin_lem (suc levels) free place exp is =
+    subst (λ e. BeginsExpression (exp_items e)) (roll-out-Exp exp) (exp_level levels (expressions_begin_lem levels) free place (out-Exp exp) is)

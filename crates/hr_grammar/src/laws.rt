@@ -1,5 +1,5 @@
 //! Laws of the definitions, which the proof of the parser goes by.
-ghost use Rattle.hr_grammar.specs.Firsts.{PatternsBegin, TypesBegin};
+ghost use Rattle.hr_grammar.specs.Firsts.{ExpressionsBegin, PatternsBegin, TypesBegin};
 ghost use Rattle.hr_grammar.specs.Laws.{NoAnnotatedGuard, OneAnnotation, OneYield, OpenIsLast, OpenIsUnannotated, ReadIsJoined, WithinIsDeep};
 ghost use Rattle.hr_grammar.specs.Worked.{WorkedTrees};
 
@@ -46,6 +46,11 @@ pub fn types_begin()
 /// A pattern begins with a name, a literal, `(`, `[`, `_`, `~` or a minus.
 pub fn patterns_begin()
     ensures { PatternsBegin }
+{}
+
+/// An expression begins with a name, a literal, `(`, `[`, a minus, `\`, `let`, `if` or `case`.
+pub fn expressions_begin()
+    ensures { ExpressionsBegin }
 {}
 
 /// The trees of four worked texts are trees of the grammar: an annotated expression behind `let`, a section

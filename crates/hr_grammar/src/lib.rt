@@ -4,6 +4,6 @@
 mod laws;
 
 pub use laws::{
-    guards_are_unannotated, one_annotation, one_yield, open_is_last, open_is_unannotated,
-    patterns_begin, read_is_joined, types_begin, within_is_deep, worked_trees,
+    expressions_begin, guards_are_unannotated, one_annotation, one_yield, open_is_last,
+    open_is_unannotated, patterns_begin, read_is_joined, types_begin, within_is_deep, worked_trees,
 };
