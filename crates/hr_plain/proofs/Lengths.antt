@@ -3,13 +3,13 @@ use Rattle.std.proofs.Common.{◌≡◌, ℕ, ◌+◌, ◌-◌, ◌<◌, ◌≤�
 use Rattle.std.proofs.lemmas.List.{length-map}
 use Rattle.std.specs.List.{flat_map}
 use Rattle.hr_base.specs.declared.lexeme.Item.{Item}
-use Rattle.hr_tree.specs.declared.tree.Exp.{Exp}
-use Rattle.hr_tree.specs.declared.tree.Exp.TheVariants.{Group, Apply}
-use Rattle.hr_tree.specs.declared.tree.Equation.{Equation}
-use Rattle.hr_tree.specs.Yields.{yield_of, equation_items}
+use Rattle.hr_plain_tree.specs.declared.tree.Exp.{Exp}
+use Rattle.hr_plain_tree.specs.declared.tree.Exp.TheVariants.{Group, Apply}
+use Rattle.hr_plain_tree.specs.declared.tree.Equation.{Equation}
+use Rattle.hr_plain_tree.specs.Yields.{yield_of, equation_items}
 use Rattle.hr_plain.specs.declared.binding.Owner.{Owner}
 use Rattle.hr_plain.specs.Scoping.{is_named, is_same_owner, owner_in, equation_marks, marks_from}
-use Rattle.hr_tree.proofs.Trees.{yield_group, yield_apply}
+use Rattle.hr_plain_tree.proofs.Trees.{yield_group, yield_apply}
 
 pub length_group : (left right : Item) (inner : Exp) → length (yield_of (Group left inner right)) ≡ length (yield_of inner) + 2
 length_group left right inner =

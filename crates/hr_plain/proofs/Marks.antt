@@ -3,10 +3,10 @@ use Rattle.std.proofs.Common.{◌≡◌, ℕ, ◌≤◌, Bool, List, [], ◌∷�
 use Rattle.std.specs.List.{flat_map}
 use Rattle.std.proofs.lemmas.List.{map-append}
 use Rattle.hr_base.specs.declared.lexeme.Item.{Item}
-use Rattle.hr_tree.specs.declared.tree.Exp.{Exp}
-use Rattle.hr_tree.specs.declared.tree.Exp.TheVariants.{Group, Apply}
-use Rattle.hr_tree.specs.Yields.{yield_of}
-use Rattle.hr_tree.proofs.Trees.{yield_group, yield_apply}
+use Rattle.hr_plain_tree.specs.declared.tree.Exp.{Exp}
+use Rattle.hr_plain_tree.specs.declared.tree.Exp.TheVariants.{Group, Apply}
+use Rattle.hr_plain_tree.specs.Yields.{yield_of}
+use Rattle.hr_plain_tree.proofs.Trees.{yield_group, yield_apply}
 
 pub marks_apart : (f : Item → Bool) (atoms : List Exp) → map f (flat_map yield_of atoms) ≡ flat_map (λ e. map f (yield_of e)) atoms
 marks_apart f [] = refl

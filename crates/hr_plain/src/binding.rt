@@ -1,11 +1,11 @@
 ghost use Rattle.std.specs.Prelude.{◌≡◌, ◌+◌, ◌<◌, ◌++◌, ◌&&◌, ◌==◌, length, map, MatchOption, IfOk, OnOk};
-ghost use Rattle.hr_tree.specs.Yields.{equation_items, yield_of};
+ghost use Rattle.hr_plain_tree.specs.Yields.{equation_items, yield_of};
 ghost use Rattle.hr_plain.specs.Renaming.{owner_at, owner_within};
 ghost use Rattle.hr_plain.specs.Scoping as spec;
 
 use crate::lexemes::is_variable;
 use hr_base::{Item, Text};
-use hr_tree::{Equation, Exp, Module};
+use hr_plain_tree::{Equation, Exp, Module};
 use std::alloc::{AllocError, Global};
 
 /// What a name of a module is bound to: a top-level name, or a variable among the patterns of the

@@ -9,7 +9,7 @@ use crate::writing::respelled;
 use hr_base::{Items, Place, Pos, Text};
 use hr_lexer::is_varid;
 use hr_rules::join;
-use hr_tree::{Module, at};
+use hr_plain_tree::{Module, at};
 use std::alloc::{AllocError, Global};
 
 /// How many bytes the text of a module may have.
@@ -64,7 +64,7 @@ pub fn rename(
     ensures renamed { IfOk result (IsRenamed tree.now «module».now pos new.now) }
     ensures refused { IfErr result (IsWhy tree.now «module».now pos new.now) }
 {
-    let items = hr_tree::items(alloc, tree).map_err(Why::Memory)?;
+    let items = hr_plain_tree::items(alloc, tree).map_err(Why::Memory)?;
     let Some((lexeme, old)) = named_at(tree, &items, module, pos) else {
         let place = place_at(module, pos).map_err(Why::Memory)?;
         return Err(Why::NoSuchThing {

@@ -1,2 +1,4 @@
-pub mod Trees
+pub mod TypeYields
+pub mod PatternYields
+pub mod ExpressionYields
 pub mod Found

@@ -1,12 +1,14 @@
 //! The lexeme at a position.
-ghost use Rattle.std.specs.Prelude.{◌≡◌, ◌++◌, ◌^◌, ◌<◌, length, min, position, option_map};
+ghost use Rattle.std.specs.Prelude.{◌≡◌, ◌^◌, ◌<◌, length, min, position, option_map};
 ghost use Rattle.hr_rules.specs.Positions.{is_same_pos, positions_of};
-ghost use Rattle.hr_tree.specs.Search.{passed, passed_item};
-ghost use Rattle.hr_tree.specs.Yields.{equation_items, module_items, yield_of};
+ghost use Rattle.hr_tree.specs.Search.{passed_item};
+ghost use Rattle.hr_tree.specs.Yields.{module_items};
 
-use crate::{Equation, Exp, Module};
+use crate::Module;
+use crate::walk::{Visitor, walk_module};
 use hr_base::{Item, Pos};
 use hr_rules::Reached;
+use std::convert::Infallible;
 
 /// A search for the lexeme that begins at a position: how far it has come, and what it has found.
 #[derive(Clone, Copy, Drop)]
@@ -15,6 +17,17 @@ struct Search {
     reached: Reached,
     passed: usize,
     found: Option<usize>,
+}
+
+impl Visitor for Search {
+    type Fault = Infallible;
+
+    ghost behind = { passed_item };
+
+    fn visit(&mut self, item: &Item) -> Result<(), Infallible> {
+        *self = behind_item(*self, item);
+        Ok(())
+    }
 }
 
 /// The number of the lexeme that begins at the position, from 0, or `usize::MAX` for a number
@@ -29,43 +42,9 @@ pub fn at(tree: &Module, pos: Pos) -> Option<usize>
         passed: 0,
         found: None,
     };
-    for equation in tree.equations.as_slice() {
-        search = behind_equation(search, equation);
-    }
-    search.found
-}
-
-/// The search behind an equation.
-fn behind_equation(search: Search, equation: &Equation) -> Search
-    ensures { result ≡ passed search (equation_items equation.now) }
-{
-    let mut search = behind_item(search, &equation.name);
-    for pattern in equation.patterns.as_slice() {
-        search = behind_item(search, pattern);
-    }
-    search = behind_item(search, &equation.equals);
-    behind_exp(search, &equation.body)
-}
-
-/// The search behind an expression.
-fn behind_exp(search: Search, exp: &Exp) -> Search
-    ensures { result ≡ passed search (yield_of exp.now) }
-{
-    match exp {
-        Exp::Variable(item) => behind_item(search, item),
-        Exp::Integer(item) => behind_item(search, item),
-        Exp::Group(left, inner, right) => {
-            let search = behind_item(search, left);
-            let search = behind_exp(search, inner.get());
-            behind_item(search, right)
-        }
-        Exp::Apply(atoms) => {
-            let mut search = search;
-            for atom in atoms.as_slice() {
-                search = behind_exp(search, atom);
-            }
-            search
-        }
+    match walk_module(tree, &mut search) {
+        Ok(()) => search.found,
+        Err(never) => match never {},
     }
 }
 

@@ -1,5 +1,5 @@
 use Rattle.std.proofs.Common.{◌≡◌, ap, sym, ◌+◌, ◌<◌, length, subst, ◌∙◌, MatchOption}
-use Rattle.hr_tree.specs.Yields.{yield_of}
+use Rattle.hr_plain_tree.specs.Yields.{yield_of}
 use Rattle.hr_plain.proofs.Lengths.{atoms_behind, atoms_short, group_counted, group_short}
 use Rattle.hr_plain.proofs.binding.+behind_body.Goals as goal
 

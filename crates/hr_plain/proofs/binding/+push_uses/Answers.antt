@@ -1,5 +1,5 @@
 use Rattle.std.proofs.Common.{◌++◌, ◌∷◌, [], ◌&&◌, map, ap, sym, ◌∙◌}
-use Rattle.hr_tree.specs.Yields.{yield_of}
+use Rattle.hr_plain_tree.specs.Yields.{yield_of}
 use Rattle.hr_plain.specs.Scoping as spec
 use Rattle.hr_plain.proofs.Marks.{atoms_marked, group_marked, atom_marked}
 use Rattle.hr_plain.proofs.binding.+push_uses.Goals as goal

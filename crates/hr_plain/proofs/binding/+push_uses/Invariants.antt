@@ -1,6 +1,6 @@
 use Rattle.std.proofs.Common.{◌≡◌, ◌++◌, ◌&&◌, drop, map}
 use Rattle.std.specs.List.{flat_map}
-use Rattle.hr_tree.specs.Yields.{yield_of}
+use Rattle.hr_plain_tree.specs.Yields.{yield_of}
 use Rattle.hr_plain.specs.Scoping as spec
 use Rattle.hr_plain.proofs.binding.+push_uses.Given as goal
 

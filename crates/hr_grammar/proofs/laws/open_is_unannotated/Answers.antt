@@ -1,0 +1,5 @@
+use Rattle.hr_grammar.proofs.Places.{open_is_unannotated_lem}
+use Rattle.hr_grammar.proofs.laws.open_is_unannotated.Goals as goal
+
+pub returns : goal.returns
+returns c = open_is_unannotated_lem

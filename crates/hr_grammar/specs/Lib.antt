@@ -1,0 +1,17 @@
+pub mod Blocks
+pub mod Declarations
+pub mod Expressions
+pub mod Firsts
+pub mod Imports
+pub mod Laws
+pub mod Nodes
+pub mod Offside
+pub mod Patterns
+pub mod Reads
+pub mod Separated
+pub mod Spans
+pub mod Spelled
+pub mod Types
+pub mod Words
+pub mod Worked
+pub mod Yields

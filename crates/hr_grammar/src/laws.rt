@@ -1,0 +1,60 @@
+//! Laws of the definitions, which the proof of the parser goes by.
+ghost use Rattle.hr_grammar.specs.Firsts.{ExpressionsBegin, PatternsBegin, TypesBegin};
+ghost use Rattle.hr_grammar.specs.Laws.{NoAnnotatedGuard, OneAnnotation, OneYield, OpenIsLast, OpenIsUnannotated, ReadIsJoined, WithinIsDeep};
+ghost use Rattle.hr_grammar.specs.Worked.{WorkedTrees};
+
+/// A tree yields one list of items at most.
+pub fn one_yield()
+    ensures { OneYield }
+{}
+
+/// A tree of the grammar within the limit on nesting is one without it.
+pub fn within_is_deep()
+    ensures { WithinIsDeep }
+{}
+
+/// What reads as a tree is the tree's items, joined: a tree has one text at most.
+pub fn read_is_joined()
+    ensures { ReadIsJoined }
+{}
+
+/// A lambda, `let` or `if` is no operand that an operator follows.
+pub fn open_is_last()
+    ensures { OpenIsLast }
+{}
+
+/// No `::` follows a lambda, `let` or `if` in the same expression.
+pub fn open_is_unannotated()
+    ensures { OpenIsUnannotated }
+{}
+
+/// An annotated expression is annotated only in brackets or in a block.
+pub fn one_annotation()
+    ensures { OneAnnotation }
+{}
+
+/// No `::` stands in a guard outside of brackets and blocks.
+pub fn guards_are_unannotated()
+    ensures { NoAnnotatedGuard }
+{}
+
+/// A type begins with a name, `(` or `[`.
+pub fn types_begin()
+    ensures { TypesBegin }
+{}
+
+/// A pattern begins with a name, a literal, `(`, `[`, `_`, `~` or a minus.
+pub fn patterns_begin()
+    ensures { PatternsBegin }
+{}
+
+/// An expression begins with a name, a literal, `(`, `[`, a minus, `\`, `let`, `if` or `case`.
+pub fn expressions_begin()
+    ensures { ExpressionsBegin }
+{}
+
+/// The trees of four worked texts are trees of the grammar: an annotated expression behind `let`, a section
+/// of a lambda, and a `case` that `then` and an operator end.
+pub fn worked_trees()
+    ensures { WorkedTrees }
+{}

@@ -1,0 +1,9 @@
+//! The grammar and the layout rule as definitions on trees, with their laws. Nothing here runs.
+#![tactic(auto)]
+
+mod laws;
+
+pub use laws::{
+    expressions_begin, guards_are_unannotated, one_annotation, one_yield, open_is_last,
+    open_is_unannotated, patterns_begin, read_is_joined, types_begin, within_is_deep, worked_trees,
+};

@@ -1,0 +1,73 @@
+use crate::{Block, Constructor, Decl, Listed, Variable};
+use hr_base::{Item, Seq, Text};
+
+/// A module, and the blanks and comments behind its last lexeme. One without a header is a body alone.
+#[derive(Debug, Drop)]
+pub struct Module {
+    pub header: Option<Header>,
+    pub body: Block<Decl>,
+    pub tail: Text,
+}
+
+/// `module M (..) where`
+#[derive(Debug, Drop)]
+pub struct Header {
+    pub word: Item,
+    pub name: Item,
+    pub exports: Option<NameList<Export>>,
+    pub opening: Item,
+}
+
+/// A list of exports or imports in parentheses, with its last comma if it has one.
+#[derive(Debug, Drop)]
+pub struct NameList<T> {
+    pub left: Item,
+    pub list: Seq<Listed<T>>,
+    pub last_comma: Option<Item>,
+    pub right: Item,
+}
+
+#[derive(Debug, Drop)]
+pub enum Export {
+    Variable(Variable),
+    Type(Item, Option<Members>),
+    /// `module M`
+    Module(Item, Item),
+}
+
+/// The constructors that are named with a type: `(..)`, or some of them.
+#[derive(Debug, Drop)]
+pub enum Members {
+    All(Item, Item, Item),
+    Named(Item, Seq<Listed<Constructor>>, Item),
+}
+
+/// `import qualified M as N hiding (..)`
+#[derive(Debug, Drop)]
+pub struct Import {
+    pub word: Item,
+    pub qualified: Option<Item>,
+    pub module: Item,
+    pub alias: Option<Alias>,
+    pub names: Option<ImportNames>,
+}
+
+/// `as N`
+#[derive(Debug, Drop)]
+pub struct Alias {
+    pub word: Item,
+    pub name: Item,
+}
+
+/// The names that an import brings, or with `hiding` leaves out.
+#[derive(Debug, Drop)]
+pub struct ImportNames {
+    pub hiding: Option<Item>,
+    pub list: NameList<Imported>,
+}
+
+#[derive(Debug, Drop)]
+pub enum Imported {
+    Variable(Variable),
+    Type(Item, Option<Members>),
+}
