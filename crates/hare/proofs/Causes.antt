@@ -8,8 +8,8 @@ use Rattle.hr_rules.specs.Lexing.{joined}
 use Rattle.hr_rules.proofs.Reading.{readings_join_lem}
 use Rattle.hr_shelf.specs.Outside.{Files}
 use Rattle.hr_lexer.proofs.Exactly.{no_cause}
-use Rattle.hr_tree.specs.declared.tree.Module.{Module}
-use Rattle.hr_tree.specs.Yields.{items_of, module_items}
+use Rattle.hr_plain_tree.specs.declared.tree.Module.{Module}
+use Rattle.hr_plain_tree.specs.Yields.{items_of, module_items}
 use Rattle.hr_plain.specs.declared.loading.LoadError.{LoadError}
 use Rattle.hr_plain.specs.declared.renaming.Sought.{Sought}
 use Rattle.hr_plain.specs.declared.renaming.Why.{Why}

@@ -2,9 +2,9 @@
 use Rattle.std.proofs.Common.{◌≡◌, ℕ, List, Option, Some, sym, ap, ◌∙◌}
 use Rattle.std.proofs.lemmas.List.Sums.{list_all-from_AllPass}
 use Rattle.hr_rules.proofs.Reading.{one_reading_lem}
-use Rattle.hr_tree.specs.declared.tree.Equation.{Equation}
-use Rattle.hr_tree.specs.declared.tree.Module.{Module}
-use Rattle.hr_tree.specs.Yields.{items_of, module_items}
+use Rattle.hr_plain_tree.specs.declared.tree.Equation.{Equation}
+use Rattle.hr_plain_tree.specs.declared.tree.Module.{Module}
+use Rattle.hr_plain_tree.specs.Yields.{items_of, module_items}
 use Rattle.hr_plain.specs.Form.{IsForm, IsPlain, is_equation}
 use Rattle.hr_plain.specs.Reading.{equations_of}
 use Rattle.hr_plain.proofs.Parts.{form_read}

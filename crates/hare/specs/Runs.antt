@@ -2,7 +2,7 @@
 use Rattle.std.specs.Prelude.{◌≡◌, ◌≢◌, ◌≤◌, ℕ, List, length, Option, Some, None, ◌⊎◌}
 use Rattle.std.specs.FinMap.{get}
 use Rattle.hr_shelf.specs.Outside.{Files, HoldsMore, Reads, Rose, ToldOr, replaced, appended, AppendsPrefix}
-use Rattle.hr_tree.specs.declared.tree.Module.{Module}
+use Rattle.hr_plain_tree.specs.declared.tree.Module.{Module}
 use Rattle.hr_plain.specs.declared.loading.LoadError.{LoadError}
 use Rattle.hr_plain.specs.declared.renaming.Why.{Why}
 use Rattle.hr_plain.specs.Form.{IsPlain}

@@ -13,8 +13,8 @@ use crate::status::Status;
 use crate::words::{Renaming, renaming_of};
 use hr_base::Text;
 use hr_plain::{LoadError, MODULE_LIMIT, Why, load, rename};
-use hr_shelf::{ReadError, Shelf, Sink};
 use hr_plain_tree::Module;
+use hr_shelf::{ReadError, Shelf, Sink};
 use std::alloc::{AllocError, Global};
 
 /// Does what the words say: reads the file, carries out the command, replaces the file and writes

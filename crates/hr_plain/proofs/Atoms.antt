@@ -9,10 +9,10 @@ use Rattle.std.proofs.lemmas.List.{length-map}
 use Rattle.std.proofs.lemmas.List.Folds.{list_all-map}
 use Rattle.hr_base.specs.declared.lexeme.Class.{Class}
 use Rattle.hr_base.specs.declared.lexeme.Item.{Item}
-use Rattle.hr_tree.specs.declared.tree.Exp.{Exp}
-use Rattle.hr_tree.specs.declared.tree.Exp.TheVariants.{Variable, Integer, Group, Apply}
-use Rattle.hr_tree.specs.Yields.{greatest, height_of, yield_of}
-use Rattle.hr_tree.proofs.Trees.{yield_variable, yield_integer, yield_group, yield_apply}
+use Rattle.hr_plain_tree.specs.declared.tree.Exp.{Exp}
+use Rattle.hr_plain_tree.specs.declared.tree.Exp.TheVariants.{Variable, Integer, Group, Apply}
+use Rattle.hr_plain_tree.specs.Yields.{greatest, height_of, yield_of}
+use Rattle.hr_plain_tree.proofs.Trees.{yield_variable, yield_integer, yield_group, yield_apply}
 use Rattle.hr_plain.specs.declared.expressions.Body.{Body}
 use Rattle.hr_plain.specs.declared.expressions.Outer.{Outer}
 use Rattle.hr_plain.specs.Form.{shape_of, greatest_height, is_integer, is_integer_class, is_mark, is_plain_variable, is_reserved_class}

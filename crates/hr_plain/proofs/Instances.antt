@@ -4,8 +4,8 @@ use Rattle.hr_base.specs.declared.lexeme.Items.{Items}
 use Rattle.hr_rules.specs.Lexing.{joined}
 use Rattle.hr_rules.specs.Lexemes.{LexesText}
 use Rattle.hr_lexer.specs.Words.{IsVarId}
-use Rattle.hr_tree.specs.declared.tree.Module.{Module}
-use Rattle.hr_tree.specs.Yields.{items_of}
+use Rattle.hr_plain_tree.specs.declared.tree.Module.{Module}
+use Rattle.hr_plain_tree.specs.Yields.{items_of}
 use Rattle.hr_plain.specs.declared.binding.Owner.{Owner}
 use Rattle.hr_plain.specs.Scoping.{occurrences_of}
 use Rattle.hr_plain.specs.Form.{IsPlain}

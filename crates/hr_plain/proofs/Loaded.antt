@@ -8,9 +8,9 @@ use Rattle.hr_rules.specs.Lexemes.{LexesText}
 use Rattle.hr_rules.proofs.Reading.{one_reading_lem}
 use Rattle.hr_lexer.specs.declared.error.LexError.{LexError}
 use Rattle.hr_lexer.specs.Refusals.{IsCause, OrMemory}
-use Rattle.hr_tree.specs.declared.tree.Equation.{Equation}
-use Rattle.hr_tree.specs.declared.tree.Module.{Module}
-use Rattle.hr_tree.specs.Yields.{equation_items, items_of, module_items}
+use Rattle.hr_plain_tree.specs.declared.tree.Equation.{Equation}
+use Rattle.hr_plain_tree.specs.declared.tree.Module.{Module}
+use Rattle.hr_plain_tree.specs.Yields.{equation_items, items_of, module_items}
 use Rattle.hr_plain.specs.declared.loading.LoadError.{LoadError}
 use Rattle.hr_plain.specs.Form.{IsForm, IsPlain, is_equation, is_plain_trivia, margins_of}
 use Rattle.hr_plain.specs.Reading.{equations_of}

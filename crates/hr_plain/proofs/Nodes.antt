@@ -2,12 +2,12 @@
 use Rattle.std.proofs.Common.{◌≡◌, ℕ, List, [], ◌∷◌, map, subst, sym, ap, ◌∙◌}
 use Rattle.std.specs.List.{AllByRecursion}
 use Rattle.hr_base.specs.declared.lexeme.Item.{Item}
-use Rattle.hr_tree.specs.declared.tree.Exp.{Exp}
-use Rattle.hr_tree.specs.declared.tree.Exp.TheOpen.{Exp-F}
-use Rattle.hr_tree.specs.declared.tree.Exp.TheVariants.{Variable, Integer, Group, Apply}
-use Rattle.hr_tree.specs.declared.tree.Exp.TheViews.{roll-Exp, rolls-Variable, rolls-Integer, rolls-Group, rolls-Apply}
-use Rattle.hr_tree.specs.declared.tree.Exp.TheFolds.{fold-roll-Exp, ind-Exp, map-Exp}
-use Rattle.hr_tree.specs.Yields.{height_layer, height_of}
+use Rattle.hr_plain_tree.specs.declared.tree.Exp.{Exp}
+use Rattle.hr_plain_tree.specs.declared.tree.Exp.TheOpen.{Exp-F}
+use Rattle.hr_plain_tree.specs.declared.tree.Exp.TheVariants.{Variable, Integer, Group, Apply}
+use Rattle.hr_plain_tree.specs.declared.tree.Exp.TheViews.{roll-Exp, rolls-Variable, rolls-Integer, rolls-Group, rolls-Apply}
+use Rattle.hr_plain_tree.specs.declared.tree.Exp.TheFolds.{fold-roll-Exp, ind-Exp, map-Exp}
+use Rattle.hr_plain_tree.specs.Yields.{height_layer, height_of}
 use Rattle.hr_plain.specs.Form.{Shape, shape_layer, shape_of}
 
 pub shape_variable : (item : Item) → shape_of (Variable item) ≡ shape_layer (Exp-F.Variable item)

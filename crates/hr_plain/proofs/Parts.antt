@@ -7,9 +7,9 @@ use Rattle.std.proofs.lemmas.Grind.{flat_map-append}
 use Rattle.std.specs.List.{flat_map, list_all}
 use Rattle.std.specs.Option.{option_and_then, option_map, option_to_list}
 use Rattle.hr_base.specs.declared.lexeme.Item.{Item}
-use Rattle.hr_tree.specs.declared.tree.Exp.{Exp}
-use Rattle.hr_tree.specs.declared.tree.Equation.{Equation}
-use Rattle.hr_tree.specs.Yields.{equation_items, height_of, yield_of}
+use Rattle.hr_plain_tree.specs.declared.tree.Exp.{Exp}
+use Rattle.hr_plain_tree.specs.declared.tree.Equation.{Equation}
+use Rattle.hr_plain_tree.specs.Yields.{equation_items, height_of, yield_of}
 use Rattle.hr_plain.specs.declared.expressions.Body.{Body}
 use Rattle.hr_plain.specs.declared.expressions.Outer.{Outer}
 use Rattle.hr_plain.specs.declared.equations.Part.{Part}

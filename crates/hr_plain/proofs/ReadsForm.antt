@@ -9,15 +9,15 @@ use Rattle.std.proofs.lemmas.Slice.Eq.{bytes_eq-Decides}
 use Rattle.hr_base.specs.declared.lexeme.Class.{Class}
 use Rattle.hr_base.specs.declared.lexeme.Item.{Item}
 use Rattle.hr_rules.proofs.Apart.{both_left, both_right}
-use Rattle.hr_tree.specs.declared.tree.Equation.{Equation}
-use Rattle.hr_tree.specs.declared.tree.Exp.{Exp}
-use Rattle.hr_tree.specs.declared.tree.Exp.TheOpen.{Exp-F}
-use Rattle.hr_tree.specs.declared.tree.Exp.TheVariants.{Variable, Integer, Group, Apply}
-use Rattle.hr_tree.specs.declared.tree.Exp.TheFolds.{fold-roll-Exp, ind-Exp, map-Exp}
-use Rattle.hr_tree.specs.declared.tree.Exp.TheViews.{roll-Exp, rolls-Variable, rolls-Integer, rolls-Group, rolls-Apply}
-use Rattle.hr_tree.specs.declared.tree.Module.{Module}
-use Rattle.hr_tree.specs.Yields.{equation_items, height_of, module_items, yield_of}
-use Rattle.hr_tree.proofs.Trees.{yield_variable, yield_integer, yield_group, yield_apply}
+use Rattle.hr_plain_tree.specs.declared.tree.Equation.{Equation}
+use Rattle.hr_plain_tree.specs.declared.tree.Exp.{Exp}
+use Rattle.hr_plain_tree.specs.declared.tree.Exp.TheOpen.{Exp-F}
+use Rattle.hr_plain_tree.specs.declared.tree.Exp.TheVariants.{Variable, Integer, Group, Apply}
+use Rattle.hr_plain_tree.specs.declared.tree.Exp.TheFolds.{fold-roll-Exp, ind-Exp, map-Exp}
+use Rattle.hr_plain_tree.specs.declared.tree.Exp.TheViews.{roll-Exp, rolls-Variable, rolls-Integer, rolls-Group, rolls-Apply}
+use Rattle.hr_plain_tree.specs.declared.tree.Module.{Module}
+use Rattle.hr_plain_tree.specs.Yields.{equation_items, height_of, module_items, yield_of}
+use Rattle.hr_plain_tree.proofs.Trees.{yield_variable, yield_integer, yield_group, yield_apply}
 use Rattle.hr_plain.specs.declared.binding.Owner.{Owner}
 use Rattle.hr_plain.specs.Form.{Shape, IsForm, greatest_height, is_ascii_text, is_equation, is_integer, is_integer_class, is_mark, is_pattern, is_plain_trivia, is_plain_variable, is_reserved_class, shape_layer, shape_of}
 use Rattle.hr_plain.specs.Scoping.{equation_marks, is_named, is_same_owner, is_variable, is_variable_class, marks_from, occurrences_of, owner_in}

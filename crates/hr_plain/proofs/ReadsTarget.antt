@@ -7,8 +7,8 @@ use Rattle.hr_base.specs.declared.lexeme.Item.{Item}
 use Rattle.hr_base.specs.declared.lexeme.Items.{Items}
 use Rattle.hr_rules.specs.Lexemes.{class_of, is_piece, bars, mark_len, led_by, LexesText}
 use Rattle.hr_rules.specs.Lexing.{Trivia, Fits, Lexes, joined}
-use Rattle.hr_tree.specs.declared.tree.Module.{Module}
-use Rattle.hr_tree.specs.Yields.{items_of, module_items}
+use Rattle.hr_plain_tree.specs.declared.tree.Module.{Module}
+use Rattle.hr_plain_tree.specs.Yields.{items_of, module_items}
 use Rattle.hr_lexer.specs.Words.{IsVarId}
 use Rattle.hr_plain.specs.Form.{IsPlain, is_plain_trivia}
 use Rattle.hr_plain.specs.Target.{IsParted, AllRespell, RespellsAll}

@@ -5,10 +5,10 @@ use Rattle.std.specs.List.{list_all, flat_map, AllByRecursion as Each}
 use Rattle.std.specs.Cmp.Lexicographic.{pointwise}
 use Rattle.hr_base.specs.declared.lexeme.Class.{Class}
 use Rattle.hr_base.specs.declared.lexeme.Item.{Item}
-use Rattle.hr_tree.specs.declared.tree.Exp.{Exp}
-use Rattle.hr_tree.specs.declared.tree.Exp.TheVariants.{Variable, Integer, Group, Apply}
-use Rattle.hr_tree.specs.Yields.{greatest, height_of, yield_of}
-use Rattle.hr_tree.proofs.Trees.{yield_variable, yield_integer, yield_group, yield_apply}
+use Rattle.hr_plain_tree.specs.declared.tree.Exp.{Exp}
+use Rattle.hr_plain_tree.specs.declared.tree.Exp.TheVariants.{Variable, Integer, Group, Apply}
+use Rattle.hr_plain_tree.specs.Yields.{greatest, height_of, yield_of}
+use Rattle.hr_plain_tree.proofs.Trees.{yield_variable, yield_integer, yield_group, yield_apply}
 use Rattle.hr_plain.specs.Scoping.{is_named, is_variable, is_variable_class}
 use Rattle.hr_plain.specs.Form.{Shape, is_ascii_text, is_integer, is_integer_class, is_mark, is_plain_variable, is_reserved_class, shape_of}
 use Rattle.hr_plain.proofs.Turned.{Turns, EachTurns, text_of_unnamed, variable_stays}

@@ -4,9 +4,9 @@ use Rattle.std.specs.List.{flat_map, list_all, list_any, last_or, IsDistinct}
 use Rattle.std.specs.Cmp.Lexicographic.{pointwise}
 use Rattle.std.proofs.lemmas.List.Elements.{All-nil, All-cons, All-head, All-tail, All-map, All-weaker}
 use Rattle.hr_base.specs.declared.lexeme.Item.{Item}
-use Rattle.hr_tree.specs.declared.tree.Equation.{Equation}
-use Rattle.hr_tree.specs.declared.tree.Module.{Module}
-use Rattle.hr_tree.specs.Yields.{equation_items, height_of, module_items, yield_of}
+use Rattle.hr_plain_tree.specs.declared.tree.Equation.{Equation}
+use Rattle.hr_plain_tree.specs.declared.tree.Module.{Module}
+use Rattle.hr_plain_tree.specs.Yields.{equation_items, height_of, module_items, yield_of}
 use Rattle.hr_plain.specs.declared.binding.Owner.{Owner}
 use Rattle.hr_plain.specs.Scoping.{binds, is_named, is_same_owner, is_variable, owner_in}
 use Rattle.hr_plain.specs.Renaming.{is_spelled}

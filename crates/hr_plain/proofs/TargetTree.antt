@@ -2,8 +2,8 @@
 use Rattle.std.proofs.Common.{◌≡◌, ℕ, suc, Bool, true, false, ◌&&◌, if◌then◌else◌, List, [], ◌∷◌, ◌++◌, map, refl, sym, ap, ◌∙◌, subst, true≢false, append_assoc}
 use Rattle.std.specs.List.{flat_map}
 use Rattle.hr_base.specs.declared.lexeme.Item.{Item}
-use Rattle.hr_tree.specs.declared.tree.Equation.{Equation}
-use Rattle.hr_tree.specs.Yields.{equation_items, yield_of}
+use Rattle.hr_plain_tree.specs.declared.tree.Equation.{Equation}
+use Rattle.hr_plain_tree.specs.Yields.{equation_items, yield_of}
 use Rattle.hr_plain.specs.declared.binding.Owner.{Owner}
 use Rattle.hr_plain.specs.Scoping.{equation_marks, is_named, is_same_owner, marks_from, owner_in}
 use Rattle.hr_plain.specs.Target.{AllRespell, Respells}

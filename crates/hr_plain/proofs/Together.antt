@@ -8,11 +8,11 @@ use Rattle.std.proofs.lemmas.Bool.{eqb-true}
 use Rattle.std.proofs.lemmas.List.Elements.{All-nil, All-cons, All-head, All-tail}
 use Rattle.std.proofs.lemmas.List.Folds.{list_all-append}
 use Rattle.hr_base.specs.declared.lexeme.Item.{Item}
-use Rattle.hr_tree.specs.declared.tree.Exp.{Exp}
-use Rattle.hr_tree.specs.declared.tree.Exp.TheVariants.{Group, Apply}
-use Rattle.hr_tree.specs.declared.tree.Equation.{Equation}
-use Rattle.hr_tree.specs.Yields.{yield_of}
-use Rattle.hr_tree.proofs.Trees.{yield_group, yield_apply}
+use Rattle.hr_plain_tree.specs.declared.tree.Exp.{Exp}
+use Rattle.hr_plain_tree.specs.declared.tree.Exp.TheVariants.{Group, Apply}
+use Rattle.hr_plain_tree.specs.declared.tree.Equation.{Equation}
+use Rattle.hr_plain_tree.specs.Yields.{yield_of}
+use Rattle.hr_plain_tree.proofs.Trees.{yield_group, yield_apply}
 use Rattle.hr_plain.specs.Form.{AreTogether, IsScoped, defined_by, is_bound, is_same_text, variables_in}
 use Rattle.hr_plain.specs.Scoping.{binds, is_named, is_variable}
 use Rattle.hr_plain.specs.Sets.{Holds, has, is_in, are_apart, is_next, are_together, is_bound_by, is_scoped_by, are_scoped, is_bound_in}

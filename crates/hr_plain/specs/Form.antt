@@ -7,12 +7,12 @@ use Rattle.hr_base.specs.declared.lexeme.Class.{Class}
 use Rattle.hr_base.specs.declared.lexeme.Item.{Item}
 use Rattle.hr_rules.specs.Letters.{is_newline}
 use Rattle.hr_rules.specs.Lexemes.{LexesText}
-use Rattle.hr_tree.specs.declared.tree.Exp.{Exp}
-use Rattle.hr_tree.specs.declared.tree.Exp.TheOpen.{Exp-F}
-use Rattle.hr_tree.specs.declared.tree.Exp.TheFolds.{fold-Exp}
-use Rattle.hr_tree.specs.declared.tree.Equation.{Equation}
-use Rattle.hr_tree.specs.declared.tree.Module.{Module}
-use Rattle.hr_tree.specs.Yields.{height_of, items_of, module_items, yield_of}
+use Rattle.hr_plain_tree.specs.declared.tree.Exp.{Exp}
+use Rattle.hr_plain_tree.specs.declared.tree.Exp.TheOpen.{Exp-F}
+use Rattle.hr_plain_tree.specs.declared.tree.Exp.TheFolds.{fold-Exp}
+use Rattle.hr_plain_tree.specs.declared.tree.Equation.{Equation}
+use Rattle.hr_plain_tree.specs.declared.tree.Module.{Module}
+use Rattle.hr_plain_tree.specs.Yields.{height_of, items_of, module_items, yield_of}
 use Rattle.hr_plain.specs.Scoping.{binds, is_variable}
 
 -- the lexemes

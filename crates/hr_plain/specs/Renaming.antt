@@ -9,9 +9,9 @@ use Rattle.hr_rules.specs.Lexing.{joined}
 use Rattle.hr_rules.specs.Positions.{positions_of, is_same_pos}
 use Rattle.hr_rules.specs.Lexemes.{LexesText}
 use Rattle.hr_lexer.specs.Words.{IsVarId}
-use Rattle.hr_tree.specs.declared.tree.Equation.{Equation}
-use Rattle.hr_tree.specs.declared.tree.Module.{Module}
-use Rattle.hr_tree.specs.Yields.{module_items, items_of, equation_items}
+use Rattle.hr_plain_tree.specs.declared.tree.Equation.{Equation}
+use Rattle.hr_plain_tree.specs.declared.tree.Module.{Module}
+use Rattle.hr_plain_tree.specs.Yields.{module_items, items_of, equation_items}
 use Rattle.hr_plain.specs.declared.binding.Owner.{Owner}
 use Rattle.hr_plain.specs.Scoping.{is_variable, owner_in, occurrences_of}
 use Rattle.hr_plain.specs.declared.renaming.Sought.{Sought}

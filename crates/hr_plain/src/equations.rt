@@ -5,7 +5,7 @@ ghost use Rattle.hr_plain.specs.Reading as spec;
 use crate::expressions::{Body, HEIGHT_LIMIT, body_end, body_with, is_within, nothing_read};
 use crate::lexemes::{is_at_margin, is_mark, is_pattern, is_plain_variable};
 use hr_base::{Item, Seq};
-use hr_tree::{Equation, Exp};
+use hr_plain_tree::{Equation, Exp};
 use std::alloc::{AllocError, Global};
 
 /// An equation of which items are still to come.

@@ -1,10 +1,10 @@
 ghost use Rattle.std.specs.Prelude.{◌≡◌, IfOk, nat_le};
-ghost use Rattle.hr_tree.specs.Yields.{height_of};
+ghost use Rattle.hr_plain_tree.specs.Yields.{height_of};
 ghost use Rattle.hr_plain.specs.Reading as spec;
 
 use crate::lexemes::{is_integer, is_mark, is_plain_variable};
 use hr_base::{Item, Seq};
-use hr_tree::Exp;
+use hr_plain_tree::Exp;
 use sqlite_items::{Boxed, Items as Children};
 use std::alloc::{AllocError, Global};
 

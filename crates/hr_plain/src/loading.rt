@@ -7,7 +7,7 @@ use crate::scoping::are_scoped;
 use crate::trivia::are_plain;
 use hr_base::Items;
 use hr_lexer::{LexError, lex};
-use hr_tree::Module;
+use hr_plain_tree::Module;
 use std::alloc::{AllocError, Global};
 use thiserror::Error;
 

@@ -1,5 +1,5 @@
 ghost use Rattle.std.specs.Prelude.{◌≡◌, List, ℕ, IfErr, IfOk, IfSome, MatchOption};
-ghost use Rattle.hr_tree.specs.Yields.{items_of};
+ghost use Rattle.hr_plain_tree.specs.Yields.{items_of};
 ghost use Rattle.hr_plain.specs.Form.{IsPlain};
 ghost use Rattle.hr_plain.specs.Renaming.{IsFound, IsRenamed, IsWhy, NoName, Respelled, is_spelled};
 
@@ -8,8 +8,8 @@ use crate::lexemes::is_variable;
 use crate::writing::respelled;
 use hr_base::{Items, Place, Pos, Text};
 use hr_lexer::is_varid;
-use hr_rules::join;
 use hr_plain_tree::{Module, at};
+use hr_rules::join;
 use std::alloc::{AllocError, Global};
 
 /// How many bytes the text of a module may have.

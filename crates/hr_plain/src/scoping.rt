@@ -1,13 +1,13 @@
 ghost use Rattle.std.specs.Prelude.{◌≡◌, ◌&&◌, ◌||◌, ◌++◌, ◌∷◌, [], ℕ, List, not, drop, IfOk, OnOk};
 ghost use Rattle.std.specs.List.{list_all};
-ghost use Rattle.hr_tree.specs.Yields.{yield_of};
+ghost use Rattle.hr_plain_tree.specs.Yields.{yield_of};
 ghost use Rattle.hr_plain.specs.Form.{defined_by, variables_in};
 ghost use Rattle.hr_plain.specs.Sets as spec;
 ghost use Rattle.hr_plain.specs.Scoping as lexemes;
 
 use crate::lexemes::is_variable;
 use hr_base::{Item, Text};
-use hr_tree::{Equation, Exp};
+use hr_plain_tree::{Equation, Exp};
 use std::alloc::{AllocError, Global};
 use std::collections::BTreeSet;
 

@@ -1,6 +1,6 @@
 use Rattle.std.proofs.Common.{◌≡◌, ◌-◌, nat_le, drop}
 use Rattle.std.specs.List.{list_all}
-use Rattle.hr_tree.specs.Yields.{height_of}
+use Rattle.hr_plain_tree.specs.Yields.{height_of}
 use Rattle.hr_plain.proofs.expressions.+is_within.Given as goal
 
 -- all atoms are within the limit where those that are left are

@@ -1,6 +1,6 @@
 use Rattle.std.proofs.Common.{◌≡◌, drop}
 use Rattle.std.specs.List.{flat_map, list_all}
-use Rattle.hr_tree.specs.Yields.{yield_of}
+use Rattle.hr_plain_tree.specs.Yields.{yield_of}
 use Rattle.hr_plain.specs.Sets.{is_bound_in}
 use Rattle.hr_plain.proofs.scoping.+is_bound.Given as goal
 
