@@ -2,7 +2,6 @@
 use Rattle.std.specs.Prelude.{◌≡◌, ℕ, List}
 use Rattle.hr_base.specs.declared.lexeme.Items.{Items}
 use Rattle.hr_rules.specs.Lexemes.{LexesText}
-use Rattle.hr_lexer.specs.declared.error.LexError.{LexError}
 use Rattle.hr_lexer.specs.Refusals.{IsCause}
 use Rattle.hr_tree.specs.declared.tree.Module.{Module}
 use Rattle.hr_plain.specs.declared.loading.LoadError.{LoadError}
@@ -14,8 +13,3 @@ IsLoadRefusal bytes (LoadError.Lex text error) = (text ≡ 0) × IsCause bytes e
 IsLoadRefusal bytes (LoadError.NotBuilt text) =
     (text ≡ 0) × ((items : Items) × LexesText bytes items) × ((tree : Module) → ¬ (IsPlain bytes tree))
 IsLoadRefusal bytes (LoadError.Memory _) = Unit {0}
-
--- the refusal of the one text that the lexer refuses
-abbrev pub unread : LexError → LoadError
-unread (LexError.Memory error) = LoadError.Memory error
-unread error = LoadError.Lex 0 error
