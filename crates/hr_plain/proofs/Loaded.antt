@@ -13,8 +13,8 @@ use Rattle.hr_plain_tree.specs.declared.tree.Module.{Module}
 use Rattle.hr_plain_tree.specs.Yields.{equation_items, items_of, module_items}
 use Rattle.hr_plain.specs.declared.loading.LoadError.{LoadError}
 use Rattle.hr_plain.specs.Form.{IsForm, IsPlain, is_equation, is_plain_trivia, margins_of}
-use Rattle.hr_plain.specs.Reading.{equations_of}
-use Rattle.hr_plain.specs.Refusals.{IsLoadRefusal, unread}
+use Rattle.hr_plain.specs.Reading.{equations_of, unread}
+use Rattle.hr_plain.specs.Refusals.{IsLoadRefusal}
 use Rattle.hr_plain.specs.Sets.{are_scoped}
 use Rattle.hr_plain.proofs.Basics.{both_left, both_right, both}
 use Rattle.hr_plain.proofs.Parts.{AreRead, items_read, form_read}

@@ -1,5 +1,6 @@
 -- The items of a module, read one after another as its equations: what has been read before each item, and
--- what with it.
+-- what with it. What is read so is what is of the form; the code is held against this, and callers see the
+-- form alone.
 use Rattle.std.specs.Prelude.{ℕ, Bool, true, false, ◌||◌, ◌==◌, nat_lt, nat_le, List, [], ◌∷◌, ◌++◌, length, if◌then◌else◌, Option, Some, None}
 use Rattle.std.specs.Option.{option_and_then, option_map, option_to_list}
 use Rattle.hr_base.specs.declared.lexeme.Item.{Item}
@@ -11,6 +12,7 @@ use Rattle.hr_plain_tree.specs.Yields.{height_of}
 use Rattle.hr_plain.specs.declared.expressions.Body.{Body}
 use Rattle.hr_plain.specs.declared.expressions.Outer.{Outer}
 use Rattle.hr_plain.specs.declared.equations.Part.{Part}
+use Rattle.hr_plain.specs.declared.loading.LoadError.{LoadError}
 use Rattle.hr_plain.specs.Form.{greatest_height, is_at_margin, is_integer, is_mark, is_pattern, is_plain_variable}
 
 -- blanks and comments
@@ -137,3 +139,10 @@ equations_from part (item ∷ items) =
 -- the equations that the items are
 abbrev pub equations_of : List Item → Option (List Equation)
 equations_of items = equations_from None items
+
+-- texts
+
+-- why the one text is not read that the lexer refuses
+abbrev pub unread : LexError → LoadError
+unread (LexError.Memory error) = LoadError.Memory error
+unread error = LoadError.Lex 0 error

@@ -1,6 +1,7 @@
 ghost use Rattle.std.specs.Prelude.{◌≡◌, IfErr, IfOk};
 ghost use Rattle.hr_plain.specs.Form.{IsPlain};
-ghost use Rattle.hr_plain.specs.Refusals.{IsLoadRefusal, unread};
+ghost use Rattle.hr_plain.specs.Refusals.{IsLoadRefusal};
+ghost use Rattle.hr_plain.specs.Reading.{unread};
 
 use crate::equations::equations;
 use crate::scoping::are_scoped;
