@@ -1,6 +1,6 @@
 -- An expression read item by item: what is read is of the form and yields the items, and what is of the form
 -- is read.
-use Rattle.std.proofs.Common.{◌≡◌, ℕ, ◌+◌, ◌≤◌, ◌<◌, Bool, true, false, ◌&&◌, nat_eq, nat_lt, nat_le, max, if◌then◌else◌, Option, Some, None, List, [], ◌∷◌, ◌++◌, length, map, refl, sym, ap, subst, ◌∙◌, suc, true≢false, append_assoc, append-nil, length-append, arith}
+use Rattle.std.proofs.Common.{◌≡◌, ℕ, ◌+◌, ◌≤◌, Bool, true, false, ◌&&◌, nat_eq, nat_lt, max, if◌then◌else◌, Option, Some, None, List, [], ◌∷◌, ◌++◌, length, map, refl, sym, ap, subst, ◌∙◌, suc, true≢false, append_assoc, append-nil, length-append, arith}
 use Rattle.std.specs.List.{AllByRecursion, flat_map, list_all}
 use Rattle.std.specs.Option.{option_and_then, option_map}
 use Rattle.std.specs.Cmp.Lexicographic.{pointwise}
@@ -10,15 +10,14 @@ use Rattle.std.proofs.lemmas.List.Folds.{list_all-map}
 use Rattle.hr_base.specs.declared.lexeme.Class.{Class}
 use Rattle.hr_base.specs.declared.lexeme.Item.{Item}
 use Rattle.hr_tree.specs.declared.tree.Exp.{Exp}
-use Rattle.hr_tree.specs.declared.tree.Exp.TheOpen.{Exp-F}
 use Rattle.hr_tree.specs.declared.tree.Exp.TheVariants.{Variable, Integer, Group, Apply}
 use Rattle.hr_tree.specs.Yields.{greatest, height_of, yield_of}
 use Rattle.hr_tree.proofs.Trees.{yield_variable, yield_integer, yield_group, yield_apply}
 use Rattle.hr_plain.specs.declared.expressions.Body.{Body}
 use Rattle.hr_plain.specs.declared.expressions.Outer.{Outer}
-use Rattle.hr_plain.specs.Form.{Shape, shape_layer, shape_of, greatest_height, is_integer, is_integer_class, is_mark, is_plain_variable, is_reserved_class}
-use Rattle.hr_plain.specs.Scoping.{is_variable, is_variable_class}
-use Rattle.hr_plain.specs.Reading.{joined, split_last, nothing_read, with_atom, opened, grouped, closed_in, closed, body_with, joined_outside, body_end}
+use Rattle.hr_plain.specs.Form.{shape_of, greatest_height, is_integer, is_integer_class, is_mark, is_plain_variable, is_reserved_class}
+use Rattle.hr_plain.specs.Scoping.{is_variable_class}
+use Rattle.hr_plain.specs.Reading.{joined, split_last, with_atom, opened, grouped, closed_in, closed, body_with, joined_outside, body_end}
 use Rattle.hr_plain.proofs.Basics.{and_false, both_left, both_right, both, if_true, if_false, all_more, all_but_last, all_last, flat_more, split_more, split_is}
 use Rattle.hr_plain.proofs.Nodes.{by_parts, shape_variable, shape_integer, shape_group, shape_apply, height_group, height_apply}
 

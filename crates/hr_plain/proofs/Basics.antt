@@ -1,5 +1,5 @@
 -- Booleans and lists.
-use Rattle.std.proofs.Common.{◌≡◌, ℕ, ◌+◌, ◌<◌, Bool, true, false, ◌&&◌, if◌then◌else◌, Option, Some, None, List, [], ◌∷◌, ◌++◌, length, drop, get_or, ◌-◌, arith, refl, sym, ap, ◌∙◌, true≢false, append_assoc, append-nil, add-one, drop-cons}
+use Rattle.std.proofs.Common.{◌≡◌, ℕ, ◌+◌, ◌<◌, Bool, true, false, ◌&&◌, if◌then◌else◌, Option, Some, None, List, [], ◌∷◌, ◌++◌, length, drop, get_or, ◌-◌, arith, refl, sym, ap, ◌∙◌, true≢false, append-nil, add-one, drop-cons}
 use Rattle.std.specs.List.{flat_map, last_or, list_all, slice_get}
 use Rattle.hr_plain.specs.Reading.{behind, split_last}
 use Rattle.std.proofs.lemmas.List.Folds.{list_all-append}

@@ -1,5 +1,5 @@
 -- Blanks and comments, byte by byte.
-use Rattle.std.proofs.Common.{◌≡◌, ℕ, ◌+◌, ◌<◌, ◌≤◌, Bool, true, false, not, ◌&&◌, ◌||◌, ◌==◌, nat_eq, if◌then◌else◌, Option, Some, None, List, [], ◌∷◌, length, drop, get_or, refl, sym, ap, ◌∙◌, add-one, drop-cons, drop_of_length-le}
+use Rattle.std.proofs.Common.{◌≡◌, ℕ, ◌+◌, ◌<◌, ◌≤◌, Bool, true, false, not, ◌&&◌, ◌||◌, ◌==◌, if◌then◌else◌, Option, Some, None, List, [], ◌∷◌, length, drop, get_or, refl, ap, ◌∙◌, add-one, drop-cons, drop_of_length-le}
 use Rattle.hr_rules.specs.Letters.{is_newline}
 use Rattle.hr_plain.specs.Form.{is_plain_trivia_where}
 use Rattle.hr_plain.specs.Reading.{plain_behind}

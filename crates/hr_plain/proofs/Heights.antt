@@ -1,5 +1,5 @@
 -- Whether no more nodes than a limit stand in one another.
-use Rattle.std.proofs.Common.{◌≡◌, ℕ, ◌+◌, ◌-◌, ◌<◌, ◌≤◌, Bool, true, false, ◌&&◌, nat_le, max, List, [], ◌∷◌, map, length, drop, get_or, refl, sym, ap, ◌∙◌, drop_of_length-le, arith}
+use Rattle.std.proofs.Common.{◌≡◌, ℕ, ◌+◌, ◌-◌, ◌<◌, ◌≤◌, Bool, true, false, ◌&&◌, nat_le, max, List, [], ◌∷◌, map, length, drop, get_or, sym, ap, ◌∙◌, drop_of_length-le, arith}
 use Rattle.std.specs.List.{list_all}
 use Rattle.std.proofs.lemmas.List.Folds.{list_all-map}
 use Rattle.hr_base.specs.declared.lexeme.Item.{Item}
@@ -62,3 +62,5 @@ pub atoms_end : (exp : Exp) (atoms items : List Exp) (place limit : ℕ) → exp
 atoms_end exp atoms items place limit x same h past kept =
     ap (λ e. nat_le (height_of e) limit) (x ∙ ap Apply (sym same)) ∙ apply_within items limit h ∙ sym kept
     ∙ ap (list_all (λ e. nat_le (height_of e) (limit - 1))) (drop_of_length-le items past)
+
+pub ruleset within = (variable_within, integer_within, group_within, apply_within, none_within)

@@ -1,5 +1,5 @@
 -- What a text is read as, and why it is not read.
-use Rattle.std.proofs.Common.{◌≡◌, ◌<◌, ◌≤◌, ℕ, Bool, true, false, ◌&&◌, All, Option, Some, None, List, [], ◌∷◌, length, refl, sym, ap, subst, ◌∙◌, true≢false}
+use Rattle.std.proofs.Common.{◌≡◌, ℕ, Bool, true, false, ◌&&◌, Some, None, List, Result, Ok, Err, MatchResult, IfOk, refl, sym, ap, subst, ◌∙◌, true≢false}
 use Rattle.std.specs.List.{flat_map, list_all}
 use Rattle.std.proofs.lemmas.List.Sums.{AllPass-from_list_all, list_all-from_AllPass}
 use Rattle.hr_base.specs.declared.lexeme.Item.{Item}
@@ -12,7 +12,7 @@ use Rattle.hr_tree.specs.declared.tree.Equation.{Equation}
 use Rattle.hr_tree.specs.declared.tree.Module.{Module}
 use Rattle.hr_tree.specs.Yields.{equation_items, items_of, module_items}
 use Rattle.hr_plain.specs.declared.loading.LoadError.{LoadError}
-use Rattle.hr_plain.specs.Form.{IsForm, IsPlain, is_equation, is_plain_trivia, margins_of, starts_of}
+use Rattle.hr_plain.specs.Form.{IsForm, IsPlain, is_equation, is_plain_trivia, margins_of}
 use Rattle.hr_plain.specs.Reading.{equations_of}
 use Rattle.hr_plain.specs.Refusals.{IsLoadRefusal, unread}
 use Rattle.hr_plain.specs.Sets.{are_scoped}
@@ -58,20 +58,32 @@ read_tree : (tree : Module) → IsForm tree → equations_of (module_items tree)
 read_tree tree is = form_read tree.equations (list_all-from_AllPass is_equation tree.equations is.equations) is.margins
 
 pub not_plain : (bytes : List ℕ) (items : Items) → LexesText bytes items → are_plain items ≡ false → IsLoadRefusal bytes (LoadError.NotBuilt 0)
-not_plain bytes items lexes h = (refl, ((items, lexes), λ tree is.
-    true≢false (sym (plain_tree tree is.form) ∙ ap are_plain (same_items bytes items tree lexes is) ∙ h)))
+not_plain bytes items lexes h = (
+  refl,
+  (items, lexes),
+  λ tree is.
+      true≢false (sym (plain_tree tree is.form) ∙ ap are_plain (same_items bytes items tree lexes is) ∙ h),
+)
 
 pub not_read : (bytes : List ℕ) (items : Items) → LexesText bytes items → equations_of items.list ≡ None → IsLoadRefusal bytes (LoadError.NotBuilt 0)
-not_read bytes items lexes h = (refl, ((items, lexes), λ tree is.
-    let bad : Some tree.equations ≡ None = sym (read_tree tree is.form) ∙ ap (λ i. equations_of i.list) (same_items bytes items tree lexes is) ∙ h in
-    absurd (cc)))
+not_read bytes items lexes h = (
+  refl,
+  (items, lexes),
+  λ tree is.
+      let bad : Some tree.equations ≡ None = sym (read_tree tree is.form) ∙ ap (λ i. equations_of i.list) (same_items bytes items tree lexes is) ∙ h in
+      absurd (cc),
+)
 
 pub not_scoped : (bytes : List ℕ) (items : Items) (equations : List Equation) → LexesText bytes items → equations_of items.list ≡ Some equations → are_scoped equations ≡ false
     → IsLoadRefusal bytes (LoadError.NotBuilt 0)
-not_scoped bytes items equations lexes read h = (refl, ((items, lexes), λ tree is.
-    let found : Some tree.equations ≡ Some equations = sym (read_tree tree is.form) ∙ ap (λ i. equations_of i.list) (same_items bytes items tree lexes is) ∙ read in
-    let same : tree.equations ≡ equations = cc in
-    true≢false (sym (scoped_complete tree.equations is.form.scoped) ∙ ap are_scoped same ∙ h)))
+not_scoped bytes items equations lexes read h = (
+  refl,
+  (items, lexes),
+  λ tree is.
+      let found : Some tree.equations ≡ Some equations = sym (read_tree tree is.form) ∙ ap (λ i. equations_of i.list) (same_items bytes items tree lexes is) ∙ read in
+      let same : tree.equations ≡ equations = cc in
+      true≢false (sym (scoped_complete tree.equations is.form.scoped) ∙ ap are_scoped same ∙ h),
+)
 
 -- the lexer's refusals
 pub unread_is : (bytes : List ℕ) (error : LexError) → OrMemory (IsCause bytes) error → IsLoadRefusal bytes (unread error)
@@ -81,3 +93,8 @@ unread_is bytes (LexError.OpenComment place) h = (refl, h)
 unread_is bytes (LexError.LiteralTooWide place) h = (refl, h)
 unread_is bytes (LexError.BadLexeme place) h = (refl, h)
 unread_is bytes (LexError.Memory e) h = tt
+
+-- what an answer that is handed on was
+pub ok_given : {X E : Type 0} (F : Type 0) (r : Result X E) (y : X) (P : X → Type 0) → MatchResult r (λ x. ◌≡◌ {A = Result X F} (Ok y) (Ok x)) (λ e. ⊥) → IfOk r P → P y
+ok_given F (Ok x) y P same holds = let is : y ≡ x = cc in subst P (sym is) holds
+ok_given F (Err e) y P same holds = absurd same

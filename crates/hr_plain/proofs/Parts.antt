@@ -1,5 +1,5 @@
 -- Equations read item by item: what is read is of the form and yields the items, and what is of the form is read.
-use Rattle.std.proofs.Common.{◌≡◌, ℕ, ◌+◌, ◌≤◌, Bool, true, false, ◌&&◌, ◌||◌, nat_le, if◌then◌else◌, Option, Some, None, List, [], ◌∷◌, ◌++◌, length, map, refl, sym, ap, subst, ◌∙◌, true≢false, append_assoc, append-nil, arith}
+use Rattle.std.proofs.Common.{◌≡◌, ℕ, ◌+◌, ◌≤◌, Bool, true, false, ◌&&◌, ◌||◌, nat_le, if◌then◌else◌, Option, Some, None, List, [], ◌∷◌, ◌++◌, length, map, refl, sym, ap, subst, ◌∙◌, append_assoc, append-nil, arith}
 use Rattle.std.proofs.lemmas.Bool.{leb-true}
 use Rattle.std.proofs.lemmas.List.{map-append}
 use Rattle.std.proofs.lemmas.List.Folds.{list_all-append}
@@ -14,7 +14,7 @@ use Rattle.hr_plain.specs.declared.expressions.Body.{Body}
 use Rattle.hr_plain.specs.declared.expressions.Outer.{Outer}
 use Rattle.hr_plain.specs.declared.equations.Part.{Part}
 use Rattle.hr_plain.specs.Form.{equation_starts, greatest_height, is_at_margin, is_equation, is_integer, is_mark, is_pattern, is_plain_variable, margins_where, shape_of, starts_of}
-use Rattle.hr_plain.specs.Reading.{joined, nothing_read, body_with, body_end, begun, begun_behind, left_with, part_with, limited, limited_end, equation_of, part_end, step, last_of, in_front, equations_from, equations_of}
+use Rattle.hr_plain.specs.Reading.{nothing_read, body_with, body_end, begun_behind, part_with, limited, equation_of, part_end, step, in_front, equations_from, equations_of}
 use Rattle.hr_plain.proofs.Basics.{first_or, rest_of, both_left, both_right, both, if_true, if_false, all_more}
 use Rattle.hr_plain.proofs.Atoms.{IsBody, Longer, Ended, IsRead, body_items, body_longer, body_ended, body_after, all_read, mark_no_variable, mark_no_integer}
 

@@ -1,10 +1,10 @@
 -- The tests of scoping say what scoping is.
-use Rattle.std.proofs.Common.{◌≡◌, ◌↔◌, ℕ, ◌+◌, ◌-◌, ◌<◌, ◌≤◌, zero, suc, Bool, true, false, not, ◌&&◌, ◌||◌, nat_eq, All, List, [], ◌∷◌, ◌++◌, cond, map, length, drop, get_or, refl, sym, ap, subst, ◌∙◌, true≢false, drop_of_length-le, arith}
+use Rattle.std.proofs.Common.{◌≡◌, ℕ, ◌+◌, ◌-◌, ◌<◌, ◌≤◌, zero, suc, Bool, true, false, not, ◌&&◌, ◌||◌, nat_eq, All, List, [], ◌∷◌, ◌++◌, cond, map, length, drop, get_or, refl, sym, ap, subst, ◌∙◌, true≢false, drop_of_length-le, arith}
 use Rattle.std.specs.List.{AllByRecursion, IsDistinct, filter, flat_map, list_all, list_any}
 use Rattle.std.specs.Ordering.{eq_by_cmp, nat_cmp}
 use Rattle.std.specs.Cmp.Lexicographic.{pointwise, slice_cmp, texts_ties}
 use Rattle.std.specs.BTreeSet.{BTreeSet, contains}
-use Rattle.std.proofs.lemmas.Bool.{eqb-true, not-true}
+use Rattle.std.proofs.lemmas.Bool.{eqb-true}
 use Rattle.std.proofs.lemmas.List.Elements.{All-nil, All-cons, All-head, All-tail}
 use Rattle.std.proofs.lemmas.List.Folds.{list_all-append}
 use Rattle.hr_base.specs.declared.lexeme.Item.{Item}

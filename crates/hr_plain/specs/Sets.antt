@@ -1,5 +1,5 @@
 -- The scoping of the plain form as tests: of names, one after another, and of a set that has them.
-use Rattle.std.specs.Prelude.{◌≡◌, ℕ, Bool, true, false, not, ◌&&◌, ◌||◌, List, [], ◌∷◌}
+use Rattle.std.specs.Prelude.{◌≡◌, ℕ, Bool, true, false, not, ◌&&◌, ◌||◌, List, [], ◌∷◌, Option, Some, None}
 use Rattle.std.specs.List.{list_all, list_any}
 use Rattle.std.specs.Ordering.{nat_cmp}
 use Rattle.std.specs.Cmp.Lexicographic.{slice_cmp}
@@ -19,6 +19,11 @@ has set text = contains (slice_cmp nat_cmp) set text
 -- the set has exactly these names
 abbrev pub Holds : BTreeSet (List ℕ) → List (List ℕ) → Type 0
 Holds set names = (text : List ℕ) → has set text ≡ is_in text names
+
+-- the set has exactly these names, where they stand as they have to; none where they don't
+abbrev pub Collects : Bool → List (List ℕ) → Option (BTreeSet (List ℕ)) → Type 0
+Collects stand names None = stand ≡ false
+Collects stand names (Some set) = (stand ≡ true) × Holds set names
 
 -- no two are equal
 abbrev pub are_apart : List (List ℕ) → Bool

@@ -26,12 +26,12 @@ pub enum Part {
 }
 
 /// The equations that the items are; each begins at the margin, and no other item stands there.
-pub fn equations(alloc: Global, items: Vec<Item>) -> Result<Option<Seq<Equation>>, AllocError>
-    ensures { IfOk result (λ found. found ≡ spec.equations_of items.items) }
+pub fn equations(alloc: Global, items: Seq<Item>) -> Result<Option<Seq<Equation>>, AllocError>
+    ensures { IfOk result (λ found. found ≡ spec.equations_of items) }
 {
     let mut list = Vec::new(alloc);
     let mut part = None;
-    for item in items {
+    for item in items.list {
         match step(alloc, part, item)? {
             Some((ended, next)) => {
                 push_ended(&mut list, ended)?;

@@ -150,7 +150,7 @@ pub fn body_end(body: Body) -> Option<Exp>
 }
 
 /// Whether at most so many nodes stand in one another in the expression.
-#[tactic(auto, using(crate::proofs::Heights::variable_within, crate::proofs::Heights::integer_within, crate::proofs::Heights::group_within, crate::proofs::Heights::apply_within, crate::proofs::Heights::none_within))]
+#[tactic(auto, using(crate::proofs::Heights::within))]
 pub fn is_within(exp: &Exp, limit: u32) -> bool
     ensures { result ≡ nat_le (height_of exp.now) limit }
 {

@@ -52,7 +52,7 @@ pub fn load(alloc: Global, bytes: &[u8]) -> Result<Module, LoadError>
         return Err(not_built());
     }
     let Items { list, tail } = items;
-    let equations = match equations(alloc, list.list).map_err(LoadError::Memory)? {
+    let equations = match equations(alloc, list).map_err(LoadError::Memory)? {
         Some(equations) => equations,
         None => return Err(not_built()),
     };

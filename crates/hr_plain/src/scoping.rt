@@ -1,7 +1,7 @@
-ghost use Rattle.std.specs.Prelude.{◌≡◌, ◌≤◌, ◌&&◌, ◌||◌, ◌++◌, ◌∷◌, [], ℕ, List, not, length, drop, true, false, IfOk, OnOk, MatchOption};
+ghost use Rattle.std.specs.Prelude.{◌≡◌, ◌&&◌, ◌||◌, ◌++◌, ◌∷◌, [], ℕ, List, not, drop, IfOk, OnOk};
 ghost use Rattle.std.specs.List.{list_all};
 ghost use Rattle.hr_tree.specs.Yields.{yield_of};
-ghost use Rattle.hr_plain.specs.Form.{defined_by, is_same_text, variables_in};
+ghost use Rattle.hr_plain.specs.Form.{defined_by, variables_in};
 ghost use Rattle.hr_plain.specs.Sets as spec;
 ghost use Rattle.hr_plain.specs.Scoping as lexemes;
 
@@ -40,7 +40,7 @@ fn are_bound(alloc: Global, equations: &[Equation], top: &Names) -> Result<bool,
 
 /// The names that the equations define; none where those of one name don't stand together.
 fn top_level(alloc: Global, equations: &[Equation]) -> Result<Option<Names>, AllocError>
-    ensures { IfOk result (λ found. MatchOption found (spec.are_together (defined_by equations.now) ≡ false) (λ top. (spec.are_together (defined_by equations.now) ≡ true) × spec.Holds top (defined_by equations.now))) }
+    ensures { IfOk result (spec.Collects (spec.are_together (defined_by equations.now)) (defined_by equations.now)) }
 {
     let mut names = BTreeSet::new(alloc);
     let mut place = equations.len();
@@ -103,7 +103,7 @@ fn is_scoped(alloc: Global, equation: &Equation, top: &Names) -> Result<bool, Al
 
 /// The variables among patterns; none where one stands there twice.
 fn variables_of(alloc: Global, patterns: &[Item]) -> Result<Option<Names>, AllocError>
-    ensures { IfOk result (λ found. MatchOption found (spec.are_apart (variables_in patterns.now) ≡ false) (λ variables. (spec.are_apart (variables_in patterns.now) ≡ true) × spec.Holds variables (variables_in patterns.now))) }
+    ensures { IfOk result (spec.Collects (spec.are_apart (variables_in patterns.now)) (variables_in patterns.now)) }
 {
     let mut names = BTreeSet::new(alloc);
     let mut place = patterns.len();

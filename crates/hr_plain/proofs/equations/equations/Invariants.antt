@@ -6,4 +6,4 @@ use Rattle.hr_plain.proofs.equations.equations.Given as goal
 
 -- the equations that have ended, and those of what is left
 abbrev pub invariant-loop-item : goal.invariant-loop-item
-invariant-loop-item l = option_map (λ found. l.list.items ++ found) (equations_from l.part (into_iter_items l.item-iterator)) ≡ equations_of l.fn.items.items
+invariant-loop-item l = option_map (λ found. l.list.items ++ found) (equations_from l.part (into_iter_items l.item-iterator)) ≡ equations_of l.fn.items

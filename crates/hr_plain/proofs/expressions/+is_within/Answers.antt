@@ -1,4 +1,4 @@
-use Rattle.std.proofs.Common.{ap, sym, ◌∙◌, ◌≡◌, ◌≤◌, ◌-◌, nat_le, false, arith}
+use Rattle.std.proofs.Common.{sym, ◌∙◌, ◌≡◌, ◌≤◌, ◌-◌, nat_le, false, arith}
 use Rattle.hr_tree.specs.Yields.{height_of}
 use Rattle.hr_plain.proofs.Heights.{atoms_stop, atoms_end}
 use Rattle.hr_plain.proofs.expressions.+is_within.Goals as goal

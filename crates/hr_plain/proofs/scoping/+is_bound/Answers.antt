@@ -1,5 +1,4 @@
-use Rattle.std.proofs.Common.{◌≡◌, Bool, sym, ◌∙◌}
-use Rattle.hr_base.specs.declared.lexeme.Item.{Item}
+use Rattle.std.proofs.Common.{sym, ◌∙◌}
 use Rattle.hr_plain.specs.Sets.{is_bound_in}
 use Rattle.hr_plain.proofs.Together.{group_bound, atoms_unbound, atoms_bound}
 use Rattle.hr_plain.proofs.scoping.+is_bound.Goals as goal

@@ -1,8 +1,6 @@
-use Rattle.std.proofs.Common.{◌≡◌, sym, ◌∙◌}
+use Rattle.std.proofs.Common.{sym, ◌∙◌}
 use Rattle.hr_plain.proofs.Blanks.{plain_stop, plain_go, plain_end}
 use Rattle.hr_plain.proofs.trivia.is_plain_trivia.Goals as goal
-use Rattle.hr_plain.proofs.Heights.{none_within}
-use Rattle.hr_plain.proofs.Together.{scoped_sound}
 
 pub returns-in-None : goal.returns-in-None
 returns-in-None c =
