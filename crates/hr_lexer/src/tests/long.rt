@@ -16,9 +16,10 @@ fn filled(
     piece: &[u8],
     back: &[u8],
 ) -> Result<Vec<u8>, AllocError> {
+    let room = len.saturating_sub(front.len()).saturating_sub(back.len());
+    let times = room.checked_div(piece.len()).unwrap_or(0);
     let mut text = Vec::from_slice(alloc, front)?;
-    let most = len.saturating_sub(back.len());
-    while text.len().saturating_add(piece.len()) <= most {
+    for _ in 0..times {
         text.extend_from_slice(piece)?;
     }
     text.extend_from_slice(back)?;
