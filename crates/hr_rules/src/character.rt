@@ -1,5 +1,6 @@
 //! The kinds of character.
 ghost use Rattle.std.specs.Prelude.{◌≡◌, ◌<◌};
+ghost use Rattle.ucd_category.specs.GeneralCategory.{general_category};
 ghost use Rattle.hr_rules.specs.Letters.{ascii_kind, continues_name, is_blank, is_in_name, is_newline, is_symbol, kind_of, wide_kind};
 
 use unicode::properties::GeneralCategory;
@@ -33,7 +34,7 @@ pub enum Kind {
 }
 
 /// The kinds of the ASCII characters, in the order of their codes.
-const ASCII_KINDS: [Kind; 128] = [
+static ASCII_KINDS: [Kind; 128] = [
     Kind::Other,
     Kind::Other,
     Kind::Other,
@@ -165,6 +166,7 @@ const ASCII_KINDS: [Kind; 128] = [
 ];
 
 /// The kind of the character.
+#[inline(always)]
 #[tactic(auto, unfolding(crate::specs::Letters::kind_of))]
 pub fn kind_of(c: char) -> Kind
     ensures { result ≡ kind_of c }
@@ -172,8 +174,16 @@ pub fn kind_of(c: char) -> Kind
     if u32::from(c) < 128 {
         ascii_kind(u32::from(c))
     } else {
-        wide_kind(GeneralCategory::for_char(c))
+        kind_beyond_ascii(c)
     }
+}
+
+/// The kind of a character beyond ASCII.
+#[inline(never)]
+fn kind_beyond_ascii(c: char) -> Kind
+    ensures { result ≡ wide_kind (general_category c) }
+{
+    wide_kind(GeneralCategory::for_char(c))
 }
 
 /// The kind of an ASCII character.
