@@ -5,6 +5,7 @@ use Rattle.std.specs.Prelude.{ℕ, Bool, true, false, ◌||◌, ◌==◌, nat_lt
 use Rattle.std.specs.Option.{option_and_then, option_map, option_to_list}
 use Rattle.hr_base.specs.declared.lexeme.Item.{Item}
 use Rattle.hr_rules.specs.Letters.{is_newline}
+use Rattle.hr_lexer.specs.declared.error.LexError.{LexError}
 use Rattle.hr_plain_tree.specs.declared.tree.Exp.{Exp}
 use Rattle.hr_plain_tree.specs.declared.tree.Exp.TheVariants.{Variable, Integer, Group, Apply}
 use Rattle.hr_plain_tree.specs.declared.tree.Equation.{Equation}
