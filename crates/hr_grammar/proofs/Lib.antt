@@ -1,3 +1,5 @@
 pub mod Firsts
+pub mod Laid
+pub mod OffsideTest
 pub mod Places
 pub mod Worked

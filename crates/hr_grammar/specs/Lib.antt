@@ -8,6 +8,7 @@ pub mod Nodes
 pub mod Offside
 pub mod Patterns
 pub mod Reads
+pub mod SameTrees
 pub mod Separated
 pub mod Spans
 pub mod Spelled

@@ -1,6 +1,7 @@
 //! Laws of the definitions, which the proof of the parser goes by.
 ghost use Rattle.hr_grammar.specs.Firsts.{ExpressionsBegin, PatternsBegin, TypesBegin};
 ghost use Rattle.hr_grammar.specs.Laws.{NoAnnotatedGuard, OneAnnotation, OneYield, OpenIsLast, OpenIsUnannotated, ReadIsJoined, WithinIsDeep};
+ghost use Rattle.hr_grammar.specs.SameTrees.{SameIsEquality};
 ghost use Rattle.hr_grammar.specs.Worked.{WorkedTrees};
 
 /// A tree yields one list of items at most.
@@ -53,8 +54,15 @@ pub fn expressions_begin()
     ensures { ExpressionsBegin }
 {}
 
-/// The trees of four worked texts are trees of the grammar: an annotated expression behind `let`, a section
-/// of a lambda, and a `case` that `then` and an operator end.
+/// The trees of nine worked texts are trees of the grammar, stand as the layout rule says, and are the
+/// trees of these texts; each block ends before the lexeme that is named. A `,`, a `|`, `..`, `then`,
+/// `of`, `in` or an operator ends a block, `in` two of them, and a lambda stands in a section.
 pub fn worked_trees()
     ensures { WorkedTrees }
+{}
+
+/// Equality of trees up to trivia, empty parts and `;` is an equality: each tree is the same as itself,
+/// and it goes both ways and along.
+pub fn same_is_equality()
+    ensures { SameIsEquality }
 {}

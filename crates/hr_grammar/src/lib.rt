@@ -5,5 +5,6 @@ mod laws;
 
 pub use laws::{
     expressions_begin, guards_are_unannotated, one_annotation, one_yield, open_is_last,
-    open_is_unannotated, patterns_begin, read_is_joined, types_begin, within_is_deep, worked_trees,
+    open_is_unannotated, patterns_begin, read_is_joined, same_is_equality, types_begin,
+    within_is_deep, worked_trees,
 };
