@@ -4,6 +4,7 @@ use Rattle.std.specs.Prelude.{ℕ, ◌≡◌, ◌+◌, List, [], ◌∷◌, Opti
 use lib.Chars.{codes}
 use Rattle.hr_base.specs.declared.lexeme.Class.{Class}
 use Rattle.hr_base.specs.declared.lexeme.Item.{Item}
+use Rattle.hr_base.specs.declared.lexeme.Items.{Items}
 use Rattle.hr_rules.specs.Lexing.{joined}
 use Rattle.hr_tree.specs.declared.names.Variable.{Variable as Named}
 use Rattle.hr_tree.specs.declared.names.Constructor.{Constructor as Built}
@@ -23,7 +24,7 @@ use Rattle.hr_tree.specs.declared.expressions.Decl.TheVariants.{Binding}
 use Rattle.hr_tree.specs.declared.expressions.Qualifier.TheVariants.{Generator}
 use Rattle.hr_tree.specs.declared.modules.Module.{Module}
 use Rattle.hr_tree.specs.Yields.{items_of, module_items}
-use Rattle.hr_grammar.specs.Yields.{IsModule, nesting_limit}
+use Rattle.hr_grammar.specs.Yields.{IsModule, nesting_limit, DeepYields}
 use Rattle.hr_grammar.specs.Spans.{Span, spans_of}
 use Rattle.hr_grammar.specs.Offside.{Offside}
 
@@ -160,3 +161,15 @@ WorkedTrees =
     × (Stands (defines (codes "a") where_in_let) (codes "a = let b = c where c = 1 in b") (None ∷ Some (codes "in") ∷ Some (codes "in") ∷ [])
     × (Stands (defines (codes "x") sum_behind_case) (codes "x = (case a of A -> 1 :: T + 2)") (None ∷ Some (codes "+") ∷ [])
     × Stands (defines (codes "a") section_of_lambda) (codes "a = (\\x -> x +)") (None ∷ []))))))))
+
+-- `a = \x -> x + 1`, with the lambda as the left operand of the `+`
+abbrev pub lambda_before_plus : Exp
+lambda_before_plus = Infix (record {
+  minus = None;
+  part = Lambda (mark (codes "\\")) (Bound (name [] (codes "x")) ∷ []) (mark (codes "->")) (variable (codes "x"));
+  operator = Some (Operator.Symbol (item Class.VarSym (codes " ") (codes "+")));
+} ∷ record { minus = None; part = number (codes "1"); operator = None } ∷ [])
+
+-- this is a tree of no items, however deep nodes may nest
+abbrev pub LambdaBeforePlusYieldsNothing : Type 0
+LambdaBeforePlusYieldsNothing = (items : Items) → DeepYields (defines (codes "a") lambda_before_plus) items → ⊥

@@ -1,8 +1,8 @@
 //! Laws of the definitions, which the proof of the parser goes by.
 ghost use Rattle.hr_grammar.specs.Firsts.{ExpressionsBegin, PatternsBegin, TypesBegin};
-ghost use Rattle.hr_grammar.specs.Laws.{NoAnnotatedGuard, OneAnnotation, OneYield, OpenIsLast, OpenIsUnannotated, ReadIsJoined, WithinIsDeep};
+ghost use Rattle.hr_grammar.specs.Laws.{LambdaIsNoLeftOperand, NoAnnotatedGuard, OneAnnotation, OneYield, OpenIsLast, OpenIsUnannotated, ReadIsJoined, WithinIsDeep};
 ghost use Rattle.hr_grammar.specs.SameTrees.{SameIsEquality};
-ghost use Rattle.hr_grammar.specs.Worked.{WorkedTrees};
+ghost use Rattle.hr_grammar.specs.Worked.{LambdaBeforePlusYieldsNothing, WorkedTrees};
 
 /// A tree yields one list of items at most.
 pub fn one_yield()
@@ -22,6 +22,11 @@ pub fn read_is_joined()
 /// A lambda, `let` or `if` is no operand that an operator follows.
 pub fn open_is_last()
     ensures { OpenIsLast }
+{}
+
+/// A lambda is no operand of an infix sequence that another operand follows.
+pub fn lambda_is_no_left_operand()
+    ensures { LambdaIsNoLeftOperand }
 {}
 
 /// No `::` follows a lambda, `let` or `if` in the same expression.
@@ -65,4 +70,9 @@ pub fn worked_trees()
 /// and it goes both ways and along.
 pub fn same_is_equality()
     ensures { SameIsEquality }
+{}
+
+/// The tree of `a = \x -> x + 1` with the lambda as the left operand of the `+` is a tree of no items.
+pub fn lambda_before_plus_yields_nothing()
+    ensures { LambdaBeforePlusYieldsNothing }
 {}
