@@ -173,3 +173,12 @@ lambda_before_plus = Infix (record {
 -- this is a tree of no items, however deep nodes may nest
 abbrev pub LambdaBeforePlusYieldsNothing : Type 0
 LambdaBeforePlusYieldsNothing = (items : Items) → DeepYields (defines (codes "a") lambda_before_plus) items → ⊥
+
+-- `a :: b :: c` is the text of no tree, however deep nodes may nest and whatever blanks stand between
+abbrev pub TwiceAnnotatedHasNoTree : Type 0
+TwiceAnnotatedHasNoTree = (first second third fourth fifth tail : List ℕ) (tree : Module)
+    → DeepYields tree (record {
+      list = item Class.VarId first (codes "a") ∷ item Class.ReservedOp second (codes "::") ∷ item Class.VarId third (codes "b") ∷ item Class.ReservedOp fourth (codes "::") ∷ item Class.VarId fifth (codes "c") ∷ [];
+      tail = tail;
+    })
+    → ⊥

@@ -2,7 +2,7 @@
 ghost use Rattle.hr_grammar.specs.Firsts.{ExpressionsBegin, PatternsBegin, TypesBegin};
 ghost use Rattle.hr_grammar.specs.Laws.{LambdaIsNoLeftOperand, NoAnnotatedGuard, OneAnnotation, OneYield, OpenIsLast, OpenIsUnannotated, ReadIsJoined, WithinIsDeep};
 ghost use Rattle.hr_grammar.specs.SameTrees.{SameIsEquality};
-ghost use Rattle.hr_grammar.specs.Worked.{LambdaBeforePlusYieldsNothing, WorkedTrees};
+ghost use Rattle.hr_grammar.specs.Worked.{LambdaBeforePlusYieldsNothing, TwiceAnnotatedHasNoTree, WorkedTrees};
 
 /// A tree yields one list of items at most.
 pub fn one_yield()
@@ -75,4 +75,9 @@ pub fn same_is_equality()
 /// The tree of `a = \x -> x + 1` with the lambda as the left operand of the `+` is a tree of no items.
 pub fn lambda_before_plus_yields_nothing()
     ensures { LambdaBeforePlusYieldsNothing }
+{}
+
+/// No tree yields the lexemes of `a :: b :: c`, whatever blanks stand between them.
+pub fn twice_annotated_has_no_tree()
+    ensures { TwiceAnnotatedHasNoTree }
 {}
