@@ -3,6 +3,7 @@ pub mod Firsts
 pub mod Laid
 pub mod NoTrees
 pub mod OffsideTest
+pub mod PartFirsts
 pub mod Places
 pub mod TwiceAnnotated
 pub mod Worked

@@ -1,5 +1,5 @@
 //! Laws of the definitions, which the proof of the parser goes by.
-ghost use Rattle.hr_grammar.specs.Firsts.{ExpressionsBegin, PatternsBegin, TypesBegin};
+ghost use Rattle.hr_grammar.specs.Firsts.{AlternativesBegin, DeclarationsBegin, ExpressionsBegin, PatternsBegin, TypesBegin};
 ghost use Rattle.hr_grammar.specs.Laws.{LambdaIsNoLeftOperand, NoAnnotatedGuard, OneAnnotation, OneYield, OpenIsLast, OpenIsUnannotated, ReadIsJoined, WithinIsDeep};
 ghost use Rattle.hr_grammar.specs.SameTrees.{SameIsEquality};
 ghost use Rattle.hr_grammar.specs.Worked.{LambdaBeforePlusYieldsNothing, TwiceAnnotatedHasNoTree, WorkedTrees};
@@ -57,6 +57,17 @@ pub fn patterns_begin()
 /// An expression begins with a name, a literal, `(`, `[`, a minus, `\`, `let`, `if` or `case`.
 pub fn expressions_begin()
     ensures { ExpressionsBegin }
+{}
+
+/// A declaration begins with what the layout rule takes for the beginning of a part where it stands: with
+/// what a pattern begins with, a word of fixity, or in a module's body `type`, `data`, `newtype` or `import`.
+pub fn declarations_begin()
+    ensures { DeclarationsBegin }
+{}
+
+/// An alternative begins with what the layout rule takes for the beginning of an alternative.
+pub fn alternatives_begin()
+    ensures { AlternativesBegin }
 {}
 
 /// The trees of nine worked texts are trees of the grammar, stand as the layout rule says, and are the
