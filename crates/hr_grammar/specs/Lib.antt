@@ -4,6 +4,7 @@ pub mod Expressions
 pub mod Firsts
 pub mod Imports
 pub mod Laws
+pub mod LeftOut
 pub mod Nodes
 pub mod Offside
 pub mod Patterns

@@ -1,5 +1,6 @@
 //! Laws of the definitions, which the proof of the parser goes by.
 ghost use Rattle.hr_grammar.specs.Firsts.{AlternativesBegin, DeclarationsBegin, ExpressionsBegin, PatternsBegin, TypesBegin};
+ghost use Rattle.hr_grammar.specs.LeftOut.{TypesAndPatternsKept};
 ghost use Rattle.hr_grammar.specs.Laws.{LambdaIsNoLeftOperand, NoAnnotatedGuard, OneAnnotation, OneYield, OpenIsLast, OpenIsUnannotated, ReadIsJoined, WithinIsDeep};
 ghost use Rattle.hr_grammar.specs.SameTrees.{SameIsEquality};
 ghost use Rattle.hr_grammar.specs.Worked.{LambdaBeforePlusYieldsNothing, TwiceAnnotatedHasNoTree, WorkedTrees};
@@ -68,6 +69,12 @@ pub fn declarations_begin()
 /// An alternative begins with what the layout rule takes for the beginning of an alternative.
 pub fn alternatives_begin()
     ensures { AlternativesBegin }
+{}
+
+/// No lexeme of a type or a pattern is one that is left out of the language: `class`, `instance`, `default`,
+/// `deriving`, `do`, `=>` or a float.
+pub fn types_and_patterns_kept()
+    ensures { TypesAndPatternsKept }
 {}
 
 /// The trees of nine worked texts are trees of the grammar, stand as the layout rule says, and are the
