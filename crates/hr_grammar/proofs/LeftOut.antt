@@ -30,24 +30,24 @@ use Rattle.hr_grammar.specs.Patterns.{PatProduction, ArePatOperands}
 use Rattle.hr_grammar.specs.Yields.{nodes}
 use Rattle.hr_grammar.specs.LeftOut.{left_out, IsKept, AreKept, TypesAndPatternsKept}
 
-append : (xs ys : List Item) → AreKept xs → AreKept ys → AreKept (xs ++ ys)
+pub append : (xs ys : List Item) → AreKept xs → AreKept ys → AreKept (xs ++ ys)
 append [] ys p q = q
 append (x ∷ xs) ys p q = (p.0, append xs ys p.1 q)
 
-of_class : (class : Class) (item : Item) → IsOf class item → left_out class item.lexeme.text ≡ false → IsKept item
+pub of_class : (class : Class) (item : Item) → IsOf class item → left_out class item.lexeme.text ≡ false → IsKept item
 of_class class item is t = ap (λ c. left_out c item.lexeme.text) is ∙ t
 
-of_text : (class : Class) (text : List ℕ) (item : Item) → IsText class text item → left_out class text ≡ false → IsKept item
+pub of_text : (class : Class) (text : List ℕ) (item : Item) → IsText class text item → left_out class text ≡ false → IsKept item
 of_text class text item is t = ap₂ left_out is.0 is.1 ∙ t
 
-special : (text : List ℕ) (item : Item) → IsText Class.Special text item → IsKept item
+pub special : (text : List ℕ) (item : Item) → IsText Class.Special text item → IsKept item
 special text item is = of_text Class.Special text item is refl
 
 commas : (list : List Item) → AllByRecursion IsComma list → AreKept list
 commas [] is = tt
 commas (comma ∷ list) is = (special (codes ",") comma is.0, commas list is.1)
 
-name : (item : Item) → IsOf Class.ConId item ⊎ IsOf Class.QConId item → IsKept item
+pub name : (item : Item) → IsOf Class.ConId item ⊎ IsOf Class.QConId item → IsKept item
 name item (inl is) = of_class Class.ConId item is refl
 name item (inr is) = of_class Class.QConId item is refl
 
@@ -63,27 +63,27 @@ type_constructor (Built.Unit left right) is = (special _ left is.0, (special _ r
 type_constructor (Built.EmptyList left right) is = (special _ left is.0, (special _ right is.1, tt))
 type_constructor (Built.Tuple left list right) is = (special _ left is.0, append list (right ∷ []) (commas list is.1.0.0) (special _ right is.1.1, tt))
 
-constructor : (named : Built) → IsConstructor named → AreKept (constructor_items named)
+pub constructor : (named : Built) → IsConstructor named → AreKept (constructor_items named)
 constructor (Built.Name item) is = (name item is, tt)
 constructor (Built.Symbol left sign right) is = (special _ left is.0, (symbol sign is.1.0, (special _ right is.1.1, tt)))
 constructor (Built.Unit left right) is = (special _ left is.0, (special _ right is.1, tt))
 constructor (Built.EmptyList left right) is = (special _ left is.0, (special _ right is.1, tt))
 constructor (Built.Tuple left list right) is = (special _ left is.0, append list (right ∷ []) (commas list is.1.0.0) (special _ right is.1.1, tt))
 
-variable : (named : Named) → IsVariable named → AreKept (variable_items named)
+pub variable : (named : Named) → IsVariable named → AreKept (variable_items named)
 variable (Named.Name item) is = (of_class Class.VarId item is refl, tt)
 variable (Named.Symbol left sign right) is = (special _ left is.0, (of_class Class.VarSym sign is.1.0 refl, (special _ right is.1.1, tt)))
 
-constructor_operator : (operator : Operator) → IsConstructorOperator operator → AreKept (operator_items operator)
+pub constructor_operator : (operator : Operator) → IsConstructorOperator operator → AreKept (operator_items operator)
 constructor_operator (Operator.Symbol sign) is = (symbol sign is, tt)
 constructor_operator (Operator.Quoted left item right) is = (special _ left is.0, (name item is.1.0, (special _ right is.1.1, tt)))
 
-literal : (item : Item) → IsLiteral item → IsKept item
+pub literal : (item : Item) → IsLiteral item → IsKept item
 literal item (inl is) = of_class Class.Integer item is refl
 literal item (inr (inl is)) = of_class Class.Char item is refl
 literal item (inr (inr is)) = of_class Class.Str item is refl
 
-absent : (item : Option Item) → item ≡ None → AreKept (maybe_item item)
+pub absent : (item : Option Item) → item ≡ None → AreKept (maybe_item item)
 absent None e = tt
 absent (Some item) e = let no : ⊥ = cc in elim no [ ]
 
@@ -91,18 +91,18 @@ no_operator : (operator : Option Operator) → operator ≡ None → AreKept (ma
 no_operator None e = tt
 no_operator (Some operator) e = let no : ⊥ = cc in elim no [ ]
 
-there : (separator : Option Item) → There IsComma separator → AreKept (maybe_item separator)
+pub there : (separator : Option Item) → There IsComma separator → AreKept (maybe_item separator)
 there None is = elim is [ ]
 there (Some item) is = (special (codes ",") item is, tt)
 
-separated : {T : Type 0} (of : T → List Item) (Is : T → Type 0) → ((part : T) → Is part → AreKept (of part)) → (parts : List (Listed T)) → AreSeparated IsComma Is parts → AreKept (flat_map (listed_items of) parts)
+pub separated : {T : Type 0} (of : T → List Item) (Is : T → Type 0) → ((part : T) → Is part → AreKept (of part)) → (parts : List (Listed T)) → AreSeparated IsComma Is parts → AreKept (flat_map (listed_items of) parts)
 separated of Is each [] is = tt
 separated of Is each (listed ∷ []) is = append (listed_items of listed) [] (append (of listed.part) (maybe_item listed.separator) (each listed.part is.0) (absent listed.separator is.1)) tt
 separated of Is each (listed ∷ (next ∷ rest)) is =
     append (listed_items of listed) (flat_map (listed_items of) (next ∷ rest)) (append (of listed.part) (maybe_item listed.separator) (each listed.part is.0) (there listed.separator is.1.0))
     (separated of Is each (next ∷ rest) is.1.1)
 
-all_of : {T : Type 0} (of : T → List Item) (Is : T → Type 0) → ((part : T) → Is part → AreKept (of part)) → (parts : List T) → AllByRecursion Is parts → AreKept (flat_map of parts)
+pub all_of : {T : Type 0} (of : T → List Item) (Is : T → Type 0) → ((part : T) → Is part → AreKept (of part)) → (parts : List T) → AllByRecursion Is parts → AreKept (flat_map of parts)
 all_of of Is each [] is = tt
 all_of of Is each (part ∷ parts) is = append (of part) (flat_map of parts) (each part is.0) (all_of of Is each parts is.1)
 

@@ -2,6 +2,7 @@ pub mod Colons
 pub mod Firsts
 pub mod Laid
 pub mod LeftOut
+pub mod LeftOutWhole
 pub mod NoTrees
 pub mod OffsideTest
 pub mod PartFirsts

@@ -77,10 +77,10 @@ begun_is (w ∷ word) [] l b = let no : ⊥ = omega (arith, l) in elim no [ ]
 begun_is (w ∷ word) (c ∷ text) l b =
     let both = both_true (c == w) (begins_word word text) b in let r : length text ≡ length word = omega (arith, l) in ap₂ (λ x xs. x ∷ xs) (eqb-true c w both.0) (begun_is word text r both.1)
 
-spelled_is : (word text : List ℕ) → is_spelled word text ≡ true → text ≡ word
+pub spelled_is : (word text : List ℕ) → is_spelled word text ≡ true → text ≡ word
 spelled_is word text s = let both = both_true (length text == length word) (begins_word word text) s in begun_is word text (eqb-true (length text) (length word) both.0) both.1
 
-either_true : (a b : Bool) → (a || b) ≡ true → (a ≡ true) ⊎ (b ≡ true)
+pub either_true : (a b : Bool) → (a || b) ≡ true → (a ≡ true) ⊎ (b ≡ true)
 either_true true b e = inl refl
 either_true false b e = inr e
 

@@ -5,12 +5,14 @@ use Rattle.std.specs.List.{AllByRecursion}
 use lib.Chars.{codes}
 use Rattle.hr_base.specs.declared.lexeme.Class.{Class}
 use Rattle.hr_base.specs.declared.lexeme.Item.{Item}
+use Rattle.hr_base.specs.declared.lexeme.Items.{Items}
 use Rattle.hr_rules.specs.Names.{is_one_of, is_spelled}
 use Rattle.hr_tree.specs.declared.types.Ty.{Ty}
 use Rattle.hr_tree.specs.declared.patterns.Pat.{Pat}
+use Rattle.hr_tree.specs.declared.modules.Module.{Module}
 use Rattle.hr_tree.specs.Yields.{ty_items, pat_items}
 use Rattle.hr_grammar.specs.Nodes.{TyPlace, PatPlace}
-use Rattle.hr_grammar.specs.Yields.{nodes}
+use Rattle.hr_grammar.specs.Yields.{nodes, DeepYields}
 
 abbrev pub words_left_out : List (List ℕ)
 words_left_out = codes "class" ∷ codes "instance" ∷ codes "default" ∷ codes "deriving" ∷ codes "do" ∷ []
@@ -32,3 +34,7 @@ abbrev pub TypesAndPatternsKept : Type 0
 TypesAndPatternsKept =
     ((levels : ℕ) (place : TyPlace) (ty : Ty) → (nodes levels).ty place ty → AreKept (ty_items ty))
     × ((levels : ℕ) (place : PatPlace) (pat : Pat) → (nodes levels).pat place pat → AreKept (pat_items pat))
+
+-- nor of any tree
+abbrev pub LeftOutStandsNowhere : Type 0
+LeftOutStandsNowhere = (tree : Module) (items : Items) → DeepYields tree items → AreKept items.list

@@ -182,3 +182,9 @@ TwiceAnnotatedHasNoTree = (first second third fourth fifth tail : List ℕ) (tre
       tail = tail;
     })
     → ⊥
+
+-- `f = class` is the text of no tree
+abbrev pub ClassHasNoTree : Type 0
+ClassHasNoTree = (first second third tail : List ℕ) (tree : Module)
+    → DeepYields tree (record { list = item Class.VarId first (codes "f") ∷ item Class.ReservedOp second (codes "=") ∷ item Class.ReservedId third (codes "class") ∷ []; tail = tail })
+    → ⊥

@@ -1,9 +1,9 @@
 //! Laws of the definitions, which the proof of the parser goes by.
 ghost use Rattle.hr_grammar.specs.Firsts.{AlternativesBegin, DeclarationsBegin, ExpressionsBegin, PatternsBegin, TypesBegin};
-ghost use Rattle.hr_grammar.specs.LeftOut.{TypesAndPatternsKept};
+ghost use Rattle.hr_grammar.specs.LeftOut.{LeftOutStandsNowhere, TypesAndPatternsKept};
 ghost use Rattle.hr_grammar.specs.Laws.{LambdaIsNoLeftOperand, NoAnnotatedGuard, OneAnnotation, OneYield, OpenIsLast, OpenIsUnannotated, ReadIsJoined, WithinIsDeep};
 ghost use Rattle.hr_grammar.specs.SameTrees.{SameIsEquality};
-ghost use Rattle.hr_grammar.specs.Worked.{LambdaBeforePlusYieldsNothing, TwiceAnnotatedHasNoTree, WorkedTrees};
+ghost use Rattle.hr_grammar.specs.Worked.{ClassHasNoTree, LambdaBeforePlusYieldsNothing, TwiceAnnotatedHasNoTree, WorkedTrees};
 
 /// A tree yields one list of items at most.
 pub fn one_yield()
@@ -77,6 +77,11 @@ pub fn types_and_patterns_kept()
     ensures { TypesAndPatternsKept }
 {}
 
+/// Nor is any lexeme of a tree, however deep its nodes nest.
+pub fn left_out_stands_nowhere()
+    ensures { LeftOutStandsNowhere }
+{}
+
 /// The trees of nine worked texts are trees of the grammar, stand as the layout rule says, and are the
 /// trees of these texts; each block ends before the lexeme that is named. A `,`, a `|`, `..`, `then`,
 /// `of`, `in` or an operator ends a block, `in` two of them, and a lambda stands in a section.
@@ -98,4 +103,9 @@ pub fn lambda_before_plus_yields_nothing()
 /// No tree yields the lexemes of `a :: b :: c`, whatever blanks stand between them.
 pub fn twice_annotated_has_no_tree()
     ensures { TwiceAnnotatedHasNoTree }
+{}
+
+/// No tree yields the lexemes of `f = class`.
+pub fn class_has_no_tree()
+    ensures { ClassHasNoTree }
 {}
