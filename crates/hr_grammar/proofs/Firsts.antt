@@ -1,5 +1,5 @@
 -- Which lexemes types, patterns and expressions begin with.
-use Rattle.std.proofs.Common.{◌≡◌, ◌⊎◌, ℕ, zero, suc, Bool, true, false, List, [], ◌∷◌, ◌++◌, Option, Some, None, refl, sym, ap, ap₂, ◌∙◌, subst, inl, inr}
+use Rattle.std.proofs.Common.{◌≡◌, ◌⊎◌, ℕ, zero, suc, Bool, true, List, [], ◌∷◌, ◌++◌, Option, Some, None, refl, sym, ap, ap₂, ◌∙◌, subst, inl, inr}
 use lib.Chars.{codes}
 use Rattle.hr_base.specs.declared.lexeme.Class.{Class}
 use Rattle.hr_base.specs.declared.lexeme.Item.{Item}
@@ -34,19 +34,19 @@ use Rattle.hr_grammar.specs.Yields.{nodes}
 use Rattle.hr_grammar.specs.Firsts.{Begins, begins_type, begins_pattern, begins_operand, opens_expression, BeginsExpression, TypesBegin, PatternsBegin, ExpressionsBegin}
 
 -- a first item by its class, and by its class and text
-of_class : (test : Role → Bool) (class : Class) (item : Item) → IsOf class item → test (role_by class item.lexeme.text) ≡ true → test (role_of item.lexeme) ≡ true
+pub of_class : (test : Role → Bool) (class : Class) (item : Item) → IsOf class item → test (role_by class item.lexeme.text) ≡ true → test (role_of item.lexeme) ≡ true
 unfolding role_of
 of_class test class item is t = ap (λ c. test (role_by c item.lexeme.text)) is ∙ t
 
-of_text : (test : Role → Bool) (class : Class) (text : List ℕ) (item : Item) → IsText class text item → test (role_by class text) ≡ true → test (role_of item.lexeme) ≡ true
+pub of_text : (test : Role → Bool) (class : Class) (text : List ℕ) (item : Item) → IsText class text item → test (role_by class text) ≡ true → test (role_of item.lexeme) ≡ true
 unfolding role_of
 of_text test class text item is t = ap₂ (λ c w. test (role_by c w)) is.0 is.1 ∙ t
 
-begins_more : (test : Role → Bool) (items more : List Item) → Begins test items → Begins test (items ++ more)
+pub begins_more : (test : Role → Bool) (items more : List Item) → Begins test items → Begins test (items ++ more)
 begins_more test [] more b = elim b [ ]
 begins_more test (item ∷ items) more b = b
 
-left_paren : (test : Role → Bool) → test Role.OpenBracket ≡ true → (item : Item) → IsText Class.Special (codes "(") item → test (role_of item.lexeme) ≡ true
+pub left_paren : (test : Role → Bool) → test Role.OpenBracket ≡ true → (item : Item) → IsText Class.Special (codes "(") item → test (role_of item.lexeme) ≡ true
 left_paren test t item is = of_text test Class.Special (codes "(") item is t
 
 left_square : (test : Role → Bool) → test Role.OpenBracket ≡ true → (item : Item) → IsText Class.Special (codes "[") item → test (role_of item.lexeme) ≡ true
@@ -70,7 +70,7 @@ constructor_begins (Constructor.Unit left right) is = left_paren begins_pattern 
 constructor_begins (Constructor.EmptyList left right) is = left_square begins_pattern refl left is.0
 constructor_begins (Constructor.Tuple left commas right) is = left_paren begins_pattern refl left is.0
 
-variable_begins : (variable : Variable) → IsVariable variable → Begins begins_pattern (variable_items variable)
+pub variable_begins : (variable : Variable) → IsVariable variable → Begins begins_pattern (variable_items variable)
 variable_begins (Variable.Name name) is = of_class begins_pattern Class.VarId name is refl
 variable_begins (Variable.Symbol left symbol right) is = left_paren begins_pattern refl left is.0
 

@@ -1,3 +1,11 @@
+pub mod Colons
 pub mod Firsts
+pub mod Laid
+pub mod LeftOut
+pub mod LeftOutWhole
+pub mod NoTrees
+pub mod OffsideTest
+pub mod PartFirsts
 pub mod Places
+pub mod TwiceAnnotated
 pub mod Worked

@@ -3,17 +3,18 @@ use Rattle.std.proofs.Common.{◌≡◌, ℕ, zero, suc, Bool, true, false, List
 use Rattle.hr_base.specs.declared.lexeme.Item.{Item}
 use Rattle.hr_tree.specs.declared.lists.Operand.{Operand}
 use Rattle.hr_tree.specs.declared.types.Ty.{Ty}
+use Rattle.hr_tree.specs.declared.patterns.Pat.{Pat}
 use Rattle.hr_tree.specs.declared.expressions.Exp.{Exp, out-Exp}
 use Rattle.hr_tree.specs.declared.expressions.Decl.{Decl}
 use Rattle.hr_tree.specs.declared.expressions.Alt.{Alt}
 use Rattle.hr_tree.specs.declared.expressions.Qualifier.{Qualifier}
-use Rattle.hr_tree.specs.declared.expressions.Exp.TheVariants.{Infix, Annotated}
+use Rattle.hr_tree.specs.declared.expressions.Exp.TheVariants.{Infix, Annotated, Lambda}
 use Rattle.hr_tree.specs.declared.expressions.Decl.TheOpen.{Exp-F}
-use Rattle.hr_tree.specs.declared.expressions.Decl.TheViews.{rolls-Infix, rolls-Annotated, out-roll-Exp}
+use Rattle.hr_tree.specs.declared.expressions.Decl.TheViews.{rolls-Infix, rolls-Annotated, rolls-Lambda, out-roll-Exp}
 use Rattle.hr_grammar.specs.Nodes.{Nodes, ExpPlace}
 use Rattle.hr_grammar.specs.Expressions.{ExpProduction, takes_open}
 use Rattle.hr_grammar.specs.Yields.{nodes}
-use Rattle.hr_grammar.specs.Laws.{IsOpen, is_open, OpenIsLast, OpenIsUnannotated, OneAnnotation, NoAnnotatedGuard}
+use Rattle.hr_grammar.specs.Laws.{IsOpen, is_open, OpenIsLast, LambdaIsNoLeftOperand, OpenIsUnannotated, OneAnnotation, NoAnnotatedGuard}
 
 out_infix : (operands : List (Operand Exp)) → out-Exp (Infix operands) ≡ Exp-F.Infix operands
 out_infix operands = ap out-Exp (sym (rolls-Infix operands)) ∙ out-roll-Exp (Exp-F.Infix operands)
@@ -40,6 +41,13 @@ open_is_last_lem zero free place first second rest h o = h
 open_is_last_lem (suc levels) free place first second rest h o =
     let inside = subst (ExpProduction (nodes levels) free place) (out_infix (first ∷ (second ∷ rest))) h in
     no_open levels free ExpPlace.Operand first.part refl inside.2.1 o
+
+is_open_lambda : (mark : Item) (patterns : List Pat) (arrow : Item) (body : Exp) → IsOpen (Lambda mark patterns arrow body)
+is_open_lambda mark patterns arrow body = ap (λ exp. is_open (out-Exp exp)) (sym (rolls-Lambda mark patterns arrow body)) ∙ ap is_open (out-roll-Exp (Exp-F.Lambda mark patterns arrow body))
+
+pub lambda_is_no_left_operand_lem : LambdaIsNoLeftOperand
+lambda_is_no_left_operand_lem levels free place minus mark patterns arrow body operator next rest h =
+    open_is_last_lem levels free place (record { minus = minus; part = Lambda mark patterns arrow body; operator = operator }) next rest h (is_open_lambda mark patterns arrow body)
 
 -- what an annotated expression says of its part
 annotated_part : (levels : ℕ) (free : Bool) (place : ExpPlace) (part : Exp) (colons : Item) (ty : Ty) → (nodes (suc levels)).exp free place (Annotated part colons ty)

@@ -1,16 +1,20 @@
--- Which lexemes types, patterns and expressions begin with.
+-- Which lexemes types, patterns, expressions, declarations and alternatives begin with.
 use Rattle.std.specs.Prelude.{ℕ, ◌≡◌, ◌⊎◌, Bool, true, false, List, [], ◌∷◌}
 use lib.Chars.{codes}
 use Rattle.hr_base.specs.declared.lexeme.Class.{Class}
 use Rattle.hr_base.specs.declared.lexeme.Item.{Item}
 use Rattle.hr_rules.specs.declared.role.Role.{Role}
 use Rattle.hr_rules.specs.Names.{is_one_of, is_spelled}
+use Rattle.hr_rules.specs.declared.block.BlockKind.{BlockKind}
+use Rattle.hr_rules.specs.CanFollow.{begins_part}
 use Rattle.hr_rules.specs.Roles.{role_of}
 use Rattle.hr_tree.specs.declared.types.Ty.{Ty}
 use Rattle.hr_tree.specs.declared.patterns.Pat.{Pat}
 use Rattle.hr_tree.specs.declared.expressions.Exp.{Exp}
-use Rattle.hr_tree.specs.Yields.{ty_items, pat_items, exp_items}
-use Rattle.hr_grammar.specs.Nodes.{TyPlace, PatPlace, ExpPlace}
+use Rattle.hr_tree.specs.declared.expressions.Decl.{Decl}
+use Rattle.hr_tree.specs.declared.expressions.Alt.{Alt}
+use Rattle.hr_tree.specs.Yields.{ty_items, pat_items, exp_items, decl_items, alt_items}
+use Rattle.hr_grammar.specs.Nodes.{TyPlace, PatPlace, ExpPlace, DeclPlace}
 use Rattle.hr_grammar.specs.Yields.{nodes}
 
 -- there is a first item, of such a role
@@ -60,3 +64,20 @@ BeginsExpression (item ∷ items) = (begins_operand (role_of item.lexeme) ≡ tr
 
 abbrev pub ExpressionsBegin : Type 0
 ExpressionsBegin = (levels : ℕ) (free : Bool) (place : ExpPlace) (exp : Exp) → (nodes levels).exp free place exp → BeginsExpression (exp_items exp)
+
+-- the kind of the blocks that have declarations at the place
+abbrev pub kind_at : DeclPlace → BlockKind
+kind_at DeclPlace.Local = BlockKind.Declarations
+kind_at _ = BlockKind.Body
+
+-- a declaration or an alternative begins with what the layout rule takes for the beginning of a part, and
+-- not with a `;`
+abbrev pub opens_part : BlockKind → Role → Bool
+opens_part kind Role.Semicolon = false
+opens_part kind role = begins_part kind role
+
+abbrev pub DeclarationsBegin : Type 0
+DeclarationsBegin = (levels : ℕ) (place : DeclPlace) (decl : Decl) → (nodes levels).decl place decl → Begins (opens_part (kind_at place)) (decl_items decl)
+
+abbrev pub AlternativesBegin : Type 0
+AlternativesBegin = (levels : ℕ) (alt : Alt) → (nodes levels).alt alt → Begins (opens_part BlockKind.Alternatives) (alt_items alt)

@@ -1,13 +1,15 @@
 -- Laws of the definitions, which the proof of the parser goes by.
-use Rattle.std.specs.Prelude.{ℕ, ◌≡◌, Bool, true, false, List, ◌∷◌}
+use Rattle.std.specs.Prelude.{ℕ, ◌≡◌, Bool, true, false, List, ◌∷◌, Option}
 use Rattle.hr_base.specs.declared.lexeme.Item.{Item}
 use Rattle.hr_base.specs.declared.lexeme.Items.{Items}
 use Rattle.hr_rules.specs.Lexing.{joined}
 use Rattle.hr_tree.specs.declared.lists.Operand.{Operand}
+use Rattle.hr_tree.specs.declared.names.Operator.{Operator}
 use Rattle.hr_tree.specs.declared.types.Ty.{Ty}
+use Rattle.hr_tree.specs.declared.patterns.Pat.{Pat}
 use Rattle.hr_tree.specs.declared.expressions.Exp.{Exp, out-Exp}
 use Rattle.hr_tree.specs.declared.expressions.Decl.{Decl}
-use Rattle.hr_tree.specs.declared.expressions.Exp.TheVariants.{Infix, Annotated}
+use Rattle.hr_tree.specs.declared.expressions.Exp.TheVariants.{Infix, Annotated, Lambda}
 use Rattle.hr_tree.specs.declared.expressions.Decl.TheOpen.{Exp-F}
 use Rattle.hr_tree.specs.declared.expressions.Alt.{Alt}
 use Rattle.hr_tree.specs.declared.expressions.Qualifier.{Qualifier}
@@ -43,6 +45,12 @@ IsOpen exp = is_open (out-Exp exp) ≡ true
 abbrev pub OpenIsLast : Type 0
 OpenIsLast = (levels : ℕ) (free : Bool) (place : ExpPlace) (first second : Operand Exp) (rest : List (Operand Exp))
     → (nodes levels).exp free place (Infix (first ∷ (second ∷ rest))) → IsOpen first.part → ⊥
+
+-- so a lambda is no operand that another one follows
+abbrev pub LambdaIsNoLeftOperand : Type 0
+LambdaIsNoLeftOperand = (levels : ℕ) (free : Bool) (place : ExpPlace) (minus : Option Item) (mark : Item) (patterns : List Pat) (arrow : Item) (body : Exp) (operator : Option Operator)
+    (next : Operand Exp) (rest : List (Operand Exp))
+    → (nodes levels).exp free place (Infix (record { minus = minus; part = Lambda mark patterns arrow body; operator = operator } ∷ (next ∷ rest))) → ⊥
 
 -- and no `::` follows them in the same expression
 abbrev pub OpenIsUnannotated : Type 0

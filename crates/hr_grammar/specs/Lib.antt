@@ -4,10 +4,12 @@ pub mod Expressions
 pub mod Firsts
 pub mod Imports
 pub mod Laws
+pub mod LeftOut
 pub mod Nodes
 pub mod Offside
 pub mod Patterns
 pub mod Reads
+pub mod SameTrees
 pub mod Separated
 pub mod Spans
 pub mod Spelled

@@ -84,12 +84,12 @@ pub record IsOffside (spans : List Span) (lexemes : List Placed) (block : Span) 
   -- able to begin a part, or neither and not able to follow the last part
   pub ends : block.enclosing < n → ends_block n block.kind block.ending (drop (block.start + block.extent) lexemes) ≡ true
 
+abbrev pub StandsAs : List Span → List Placed → Span → Layout → Type 0
+StandsAs spans lexemes block (Layout.Implicit col) = IsOffside spans lexemes block col
+StandsAs spans lexemes block (Layout.Explicit left right) = Unit {0}
+
 abbrev pub StandsWell : List Span → List Placed → Span → Type 0
-StandsWell spans lexemes block = by block.layout
-  where
-    by : Layout → Type 0
-    by (Layout.Implicit col) = IsOffside spans lexemes block col
-    by (Layout.Explicit left right) = Unit {0}
+StandsWell spans lexemes block = StandsAs spans lexemes block block.layout
 
 -- each block of the tree stands as the layout rule says
 abbrev pub Offside : Module → Type 0

@@ -1,92 +1,190 @@
--- Trees of worked texts.
-use Rattle.std.specs.Prelude.{ℕ, List, [], ◌∷◌, Some, None}
+-- Trees of worked texts: that they are trees of the grammar, stand as the layout rule says, and where their
+-- blocks end.
+use Rattle.std.specs.Prelude.{ℕ, ◌≡◌, ◌+◌, List, [], ◌∷◌, Option, Some, None, drop, map}
 use lib.Chars.{codes}
 use Rattle.hr_base.specs.declared.lexeme.Class.{Class}
 use Rattle.hr_base.specs.declared.lexeme.Item.{Item}
+use Rattle.hr_base.specs.declared.lexeme.Items.{Items}
+use Rattle.hr_rules.specs.Lexing.{joined}
 use Rattle.hr_tree.specs.declared.names.Variable.{Variable as Named}
 use Rattle.hr_tree.specs.declared.names.Constructor.{Constructor as Built}
 use Rattle.hr_tree.specs.declared.names.Operator.{Operator}
 use Rattle.hr_tree.specs.declared.lists.Layout.{Layout}
 use Rattle.hr_tree.specs.declared.lists.Piece.{Piece}
+use Rattle.hr_tree.specs.declared.lists.Block.{Block}
 use Rattle.hr_tree.specs.declared.declarations.Body.{Body}
+use Rattle.hr_tree.specs.declared.types.Ty.{Ty}
 use Rattle.hr_tree.specs.declared.types.Ty.TheVariants.{Constructor as TypeOf}
+use Rattle.hr_tree.specs.declared.patterns.Pat.{Pat}
 use Rattle.hr_tree.specs.declared.patterns.Pat.TheVariants.{Variable as Bound, Constructor as Built_by}
 use Rattle.hr_tree.specs.declared.expressions.Exp.{Exp}
-use Rattle.hr_tree.specs.declared.expressions.Exp.TheVariants.{Variable, Literal, Group, Infix, Annotated, Lambda, Let, If, Case, LeftSection}
+use Rattle.hr_tree.specs.declared.expressions.Exp.TheVariants.{Variable, Constructor, Literal, Group, Tuple, From, Comprehension, Infix, Annotated, Lambda, Let, If, Case, LeftSection}
 use Rattle.hr_tree.specs.declared.expressions.Alt.{Alt, roll-Alt}
 use Rattle.hr_tree.specs.declared.expressions.Decl.TheVariants.{Binding}
+use Rattle.hr_tree.specs.declared.expressions.Qualifier.TheVariants.{Generator}
 use Rattle.hr_tree.specs.declared.modules.Module.{Module}
-use Rattle.hr_grammar.specs.Yields.{IsModule, nesting_limit}
+use Rattle.hr_tree.specs.Yields.{items_of, module_items}
+use Rattle.hr_grammar.specs.Yields.{IsModule, nesting_limit, DeepYields}
+use Rattle.hr_grammar.specs.Spans.{Span, spans_of}
+use Rattle.hr_grammar.specs.Offside.{Offside}
 
 -- an item, by what stands before it
-abbrev item : Class → List ℕ → List ℕ → Item
+abbrev pub item : Class → List ℕ → List ℕ → Item
 item class trivia text = record { trivia = trivia; lexeme = record { class = class; text = text } }
 
-abbrev name : List ℕ → List ℕ → Named
+-- lexemes with a blank before them, and with nothing before them
+abbrev pub word : List ℕ → Item
+word = item Class.ReservedId (codes " ")
+
+abbrev pub mark : List ℕ → Item
+mark = item Class.ReservedOp (codes " ")
+
+abbrev pub bracket : List ℕ → Item
+bracket = item Class.Special (codes " ")
+
+abbrev pub joint : List ℕ → Item
+joint = item Class.Special []
+
+abbrev pub name : List ℕ → List ℕ → Named
 name trivia text = Named.Name (item Class.VarId trivia text)
 
--- `a = body` on the first line
-abbrev defines : Exp → Module
-defines body = record {
-  header = None;
-  body = record { layout = Layout.Implicit 1; pieces = Piece.Part (Binding (Bound (name [] (codes "a"))) (Body.Plain (item Class.ReservedOp (codes " ") (codes "=")) body) None) ∷ [] };
-  tail = [];
-}
+abbrev pub variable : List ℕ → Exp
+variable text = Variable (name (codes " ") text)
 
--- `a = let b = 1 :: Int in b`
-abbrev pub annotated_in_let : Module
-annotated_in_let = defines (Let (item Class.ReservedId (codes " ") (codes "let"))
-    (record {
-      layout = Layout.Implicit 9;
-      pieces = Piece.Part (Binding (Bound (name (codes " ") (codes "b")))
-          (Body.Plain (item Class.ReservedOp (codes " ") (codes "="))
-          (Annotated (Literal (item Class.Integer (codes " ") (codes "1"))) (item Class.ReservedOp (codes " ") (codes "::")) (TypeOf (Built.Name (item Class.ConId (codes " ") (codes "Int"))))))
-          None) ∷ [];
-    })
-    (item Class.ReservedId (codes " ") (codes "in")) (Variable (name (codes " ") (codes "b"))))
+abbrev pub number : List ℕ → Exp
+number text = Literal (item Class.Integer (codes " ") text)
 
--- `a = (\x -> x +)`
-abbrev pub section_of_lambda : Module
-section_of_lambda = defines (LeftSection (item Class.Special (codes " ") (codes "("))
-    (Lambda (item Class.ReservedOp [] (codes "\\")) (Bound (name [] (codes "x")) ∷ []) (item Class.ReservedOp (codes " ") (codes "->")) (Variable (name (codes " ") (codes "x"))))
-    (Operator.Symbol (item Class.VarSym (codes " ") (codes "+"))) (item Class.Special [] (codes ")")))
+abbrev pub bound : List ℕ → Pat
+bound text = Bound (name (codes " ") text)
 
--- `y -> y`
-abbrev alternative : Alt
-alternative = roll-Alt (record {
-  pattern = Bound (name (codes " ") (codes "y"));
-  body = Body.Plain (item Class.ReservedOp (codes " ") (codes "->")) (Variable (name (codes " ") (codes "y")));
-  locals = None;
-})
+abbrev pub type : List ℕ → Ty
+type text = TypeOf (Built.Name (item Class.ConId (codes " ") text))
 
--- `A -> 1 :: T`
-abbrev annotated_alternative : Alt
-annotated_alternative = roll-Alt (record {
-  pattern = Built_by (Built.Name (item Class.ConId (codes " ") (codes "A")));
-  body = Body.Plain (item Class.ReservedOp (codes " ") (codes "->"))
-      (Annotated (Literal (item Class.Integer (codes " ") (codes "1"))) (item Class.ReservedOp (codes " ") (codes "::")) (TypeOf (Built.Name (item Class.ConId (codes " ") (codes "T")))));
-  locals = None;
-})
+-- a block of one part, without braces
+abbrev pub only : {T : Type 0} → ℕ → T → Block T
+only col part = record { layout = Layout.Implicit col; pieces = Piece.Part part ∷ [] }
+
+abbrev pub alternative : Pat → Exp → Alt
+alternative pattern body = roll-Alt (record { pattern = pattern; body = Body.Plain (mark (codes "->")) body; locals = None })
+
+-- `case`, with what stands before it
+abbrev pub case_of : Item → List ℕ → ℕ → Pat → Exp → Exp
+case_of first text col pattern body = Case first (variable text) (word (codes "of")) (only col (alternative pattern body))
+
+-- a module that binds a name, on its first line
+abbrev pub defines : List ℕ → Exp → Module
+defines text body = record { header = None; body = only 1 (Binding (Bound (name [] text)) (Body.Plain (mark (codes "=")) body) None); tail = [] }
+
+-- `a = (case x of y -> 1, 2)`
+abbrev pub case_in_tuple : Exp
+case_in_tuple = Tuple (bracket (codes "("))
+    (record { part = case_of (item Class.ReservedId [] (codes "case")) (codes "x") 16 (bound (codes "y")) (number (codes "1")); separator = Some (joint (codes ",")) }
+    ∷ record { part = number (codes "2"); separator = None } ∷ [])
+    (joint (codes ")"))
+
+-- `a = [case x of y -> 1 : [] | y <- z]`
+abbrev pub case_in_comprehension : Exp
+case_in_comprehension = Comprehension (bracket (codes "["))
+    (case_of (item Class.ReservedId [] (codes "case")) (codes "x") 16 (bound (codes "y"))
+    (Infix (record { minus = None; part = number (codes "1"); operator = Some (Operator.Symbol (mark (codes ":"))) }
+    ∷ record { minus = None; part = Constructor (Built.EmptyList (bracket (codes "[")) (joint (codes "]"))); operator = None } ∷ [])))
+    (mark (codes "|")) (record { part = Generator (bound (codes "y")) (mark (codes "<-")) (variable (codes "z")); separator = None } ∷ []) (joint (codes "]"))
+
+-- `a = [case x of y -> 1 ..]`
+abbrev pub case_in_sequence : Exp
+case_in_sequence = From (bracket (codes "[")) (case_of (item Class.ReservedId [] (codes "case")) (codes "x") 16 (bound (codes "y")) (number (codes "1"))) (mark (codes "..")) (joint (codes "]"))
 
 -- `a = if case x of y -> y then 1 else 2`
-abbrev pub case_in_if : Module
-case_in_if = defines (If (item Class.ReservedId (codes " ") (codes "if"))
-    (Case (item Class.ReservedId (codes " ") (codes "case")) (Variable (name (codes " ") (codes "x"))) (item Class.ReservedId (codes " ") (codes "of"))
-    (record { layout = Layout.Implicit 18; pieces = Piece.Part alternative ∷ [] }))
-    (item Class.ReservedId (codes " ") (codes "then")) (Literal (item Class.Integer (codes " ") (codes "1")))
-    (item Class.ReservedId (codes " ") (codes "else")) (Literal (item Class.Integer (codes " ") (codes "2"))))
+abbrev pub case_in_if : Exp
+case_in_if =
+    If (word (codes "if")) (case_of (word (codes "case")) (codes "x") 18 (bound (codes "y")) (variable (codes "y"))) (word (codes "then")) (number (codes "1")) (word (codes "else")) (number (codes "2"))
 
--- `x = (case a of A -> 1 :: T + 2)`: the block ends before the `+`
-abbrev pub sum_behind_case : Module
-sum_behind_case = defines (Group (item Class.Special (codes " ") (codes "("))
+-- `a = case case x of y -> y of z -> z`
+abbrev pub case_in_case : Exp
+case_in_case = Case (word (codes "case")) (case_of (word (codes "case")) (codes "x") 20 (bound (codes "y")) (variable (codes "y"))) (word (codes "of"))
+    (only 30 (alternative (bound (codes "z")) (variable (codes "z"))))
+
+-- `a = let b = 1 :: Int in b`
+abbrev pub annotated_in_let : Exp
+annotated_in_let = Let (word (codes "let")) (only 9 (Binding (bound (codes "b")) (Body.Plain (mark (codes "=")) (Annotated (number (codes "1")) (mark (codes "::")) (type (codes "Int")))) None))
+    (word (codes "in")) (variable (codes "b"))
+
+-- `a = let b = c where c = 1 in b`
+abbrev pub where_in_let : Exp
+where_in_let = Let (word (codes "let"))
+    (only 9 (Binding (bound (codes "b")) (Body.Plain (mark (codes "=")) (variable (codes "c")))
+    (Some (record { word = word (codes "where"); block = only 21 (Binding (bound (codes "c")) (Body.Plain (mark (codes "=")) (number (codes "1"))) None) }))))
+    (word (codes "in")) (variable (codes "b"))
+
+-- `x = (case a of A -> 1 :: T + 2)`
+abbrev pub sum_behind_case : Exp
+sum_behind_case = Group (bracket (codes "("))
     (Infix (record {
       minus = None;
-      part = Case (item Class.ReservedId [] (codes "case")) (Variable (name (codes " ") (codes "a"))) (item Class.ReservedId (codes " ") (codes "of"))
-          (record { layout = Layout.Implicit 16; pieces = Piece.Part annotated_alternative ∷ [] });
+      part = case_of (item Class.ReservedId [] (codes "case")) (codes "a") 16 (Built_by (Built.Name (item Class.ConId (codes " ") (codes "A")))) (Annotated (number (codes "1")) (mark (codes "::")) (type (codes "T")));
       operator = Some (Operator.Symbol (item Class.VarSym (codes " ") (codes "+")));
-    } ∷ (record { minus = None; part = Literal (item Class.Integer (codes " ") (codes "2")); operator = None } ∷ [])))
-    (item Class.Special [] (codes ")")))
+    } ∷ record { minus = None; part = number (codes "2"); operator = None } ∷ []))
+    (joint (codes ")"))
 
--- they are trees of the grammar
+-- `a = (\x -> x +)`
+abbrev pub section_of_lambda : Exp
+section_of_lambda = LeftSection (bracket (codes "("))
+    (Lambda (item Class.ReservedOp [] (codes "\\")) (Bound (name [] (codes "x")) ∷ []) (mark (codes "->")) (variable (codes "x")))
+    (Operator.Symbol (item Class.VarSym (codes " ") (codes "+"))) (joint (codes ")"))
+
+-- the text of the next lexeme
+abbrev pub next_text : List Item → Option (List ℕ)
+next_text [] = None
+next_text (next ∷ rest) = Some next.lexeme.text
+
+-- of each block, in the order of their beginnings, the text of the lexeme behind it
+abbrev pub behind_blocks : List Span → List Item → List (Option (List ℕ))
+behind_blocks spans items = map (λ (span : Span). next_text (drop (span.start + span.extent) items)) spans
+
+-- a tree with the text that it is the tree of, and with the lexemes that end its blocks: it is a tree of the
+-- grammar, and stands as the layout rule says
+pub record Stands (tree : Module) (text : List ℕ) (ends : List (Option (List ℕ))) : Type 0 where
+  pub grammar : IsModule nesting_limit tree
+  pub offside : Offside tree
+  pub spelled : joined (items_of tree).list (items_of tree).tail ≡ text
+  pub ended : behind_blocks (spans_of tree) (module_items tree) ≡ ends
+
+-- the body of each of these modules ends with the text; the blocks in it end before the lexeme that is named
 abbrev pub WorkedTrees : Type 0
-WorkedTrees = IsModule nesting_limit annotated_in_let × IsModule nesting_limit section_of_lambda × IsModule nesting_limit case_in_if × IsModule nesting_limit sum_behind_case
+WorkedTrees =
+    Stands (defines (codes "a") case_in_tuple) (codes "a = (case x of y -> 1, 2)") (None ∷ Some (codes ",") ∷ [])
+    × (Stands (defines (codes "a") case_in_comprehension) (codes "a = [case x of y -> 1 : [] | y <- z]") (None ∷ Some (codes "|") ∷ [])
+    × (Stands (defines (codes "a") case_in_sequence) (codes "a = [case x of y -> 1 ..]") (None ∷ Some (codes "..") ∷ [])
+    × (Stands (defines (codes "a") case_in_if) (codes "a = if case x of y -> y then 1 else 2") (None ∷ Some (codes "then") ∷ [])
+    × (Stands (defines (codes "a") case_in_case) (codes "a = case case x of y -> y of z -> z") (None ∷ Some (codes "of") ∷ None ∷ [])
+    × (Stands (defines (codes "a") annotated_in_let) (codes "a = let b = 1 :: Int in b") (None ∷ Some (codes "in") ∷ [])
+    × (Stands (defines (codes "a") where_in_let) (codes "a = let b = c where c = 1 in b") (None ∷ Some (codes "in") ∷ Some (codes "in") ∷ [])
+    × (Stands (defines (codes "x") sum_behind_case) (codes "x = (case a of A -> 1 :: T + 2)") (None ∷ Some (codes "+") ∷ [])
+    × Stands (defines (codes "a") section_of_lambda) (codes "a = (\\x -> x +)") (None ∷ []))))))))
+
+-- `a = \x -> x + 1`, with the lambda as the left operand of the `+`
+abbrev pub lambda_before_plus : Exp
+lambda_before_plus = Infix (record {
+  minus = None;
+  part = Lambda (mark (codes "\\")) (Bound (name [] (codes "x")) ∷ []) (mark (codes "->")) (variable (codes "x"));
+  operator = Some (Operator.Symbol (item Class.VarSym (codes " ") (codes "+")));
+} ∷ record { minus = None; part = number (codes "1"); operator = None } ∷ [])
+
+-- this is a tree of no items, however deep nodes may nest
+abbrev pub LambdaBeforePlusYieldsNothing : Type 0
+LambdaBeforePlusYieldsNothing = (items : Items) → DeepYields (defines (codes "a") lambda_before_plus) items → ⊥
+
+-- `a :: b :: c` is the text of no tree, however deep nodes may nest and whatever blanks stand between
+abbrev pub TwiceAnnotatedHasNoTree : Type 0
+TwiceAnnotatedHasNoTree = (first second third fourth fifth tail : List ℕ) (tree : Module)
+    → DeepYields tree (record {
+      list = item Class.VarId first (codes "a") ∷ item Class.ReservedOp second (codes "::") ∷ item Class.VarId third (codes "b") ∷ item Class.ReservedOp fourth (codes "::") ∷ item Class.VarId fifth (codes "c") ∷ [];
+      tail = tail;
+    })
+    → ⊥
+
+-- `f = class` is the text of no tree
+abbrev pub ClassHasNoTree : Type 0
+ClassHasNoTree = (first second third tail : List ℕ) (tree : Module)
+    → DeepYields tree (record { list = item Class.VarId first (codes "f") ∷ item Class.ReservedOp second (codes "=") ∷ item Class.ReservedId third (codes "class") ∷ []; tail = tail })
+    → ⊥

@@ -1,7 +1,9 @@
 //! Laws of the definitions, which the proof of the parser goes by.
-ghost use Rattle.hr_grammar.specs.Firsts.{ExpressionsBegin, PatternsBegin, TypesBegin};
-ghost use Rattle.hr_grammar.specs.Laws.{NoAnnotatedGuard, OneAnnotation, OneYield, OpenIsLast, OpenIsUnannotated, ReadIsJoined, WithinIsDeep};
-ghost use Rattle.hr_grammar.specs.Worked.{WorkedTrees};
+ghost use Rattle.hr_grammar.specs.Firsts.{AlternativesBegin, DeclarationsBegin, ExpressionsBegin, PatternsBegin, TypesBegin};
+ghost use Rattle.hr_grammar.specs.LeftOut.{LeftOutStandsNowhere, TypesAndPatternsKept};
+ghost use Rattle.hr_grammar.specs.Laws.{LambdaIsNoLeftOperand, NoAnnotatedGuard, OneAnnotation, OneYield, OpenIsLast, OpenIsUnannotated, ReadIsJoined, WithinIsDeep};
+ghost use Rattle.hr_grammar.specs.SameTrees.{SameIsEquality};
+ghost use Rattle.hr_grammar.specs.Worked.{ClassHasNoTree, LambdaBeforePlusYieldsNothing, TwiceAnnotatedHasNoTree, WorkedTrees};
 
 /// A tree yields one list of items at most.
 pub fn one_yield()
@@ -21,6 +23,11 @@ pub fn read_is_joined()
 /// A lambda, `let` or `if` is no operand that an operator follows.
 pub fn open_is_last()
     ensures { OpenIsLast }
+{}
+
+/// A lambda is no operand of an infix sequence that another operand follows.
+pub fn lambda_is_no_left_operand()
+    ensures { LambdaIsNoLeftOperand }
 {}
 
 /// No `::` follows a lambda, `let` or `if` in the same expression.
@@ -53,8 +60,52 @@ pub fn expressions_begin()
     ensures { ExpressionsBegin }
 {}
 
-/// The trees of four worked texts are trees of the grammar: an annotated expression behind `let`, a section
-/// of a lambda, and a `case` that `then` and an operator end.
+/// A declaration begins with what the layout rule takes for the beginning of a part where it stands: with
+/// what a pattern begins with, a word of fixity, or in a module's body `type`, `data`, `newtype` or `import`.
+pub fn declarations_begin()
+    ensures { DeclarationsBegin }
+{}
+
+/// An alternative begins with what the layout rule takes for the beginning of an alternative.
+pub fn alternatives_begin()
+    ensures { AlternativesBegin }
+{}
+
+/// No lexeme of a type or a pattern is one that is left out of the language: `class`, `instance`, `default`,
+/// `deriving`, `do`, `=>` or a float.
+pub fn types_and_patterns_kept()
+    ensures { TypesAndPatternsKept }
+{}
+
+/// Nor is any lexeme of a tree, however deep its nodes nest.
+pub fn left_out_stands_nowhere()
+    ensures { LeftOutStandsNowhere }
+{}
+
+/// The trees of nine worked texts are trees of the grammar, stand as the layout rule says, and are the
+/// trees of these texts; each block ends before the lexeme that is named. A `,`, a `|`, `..`, `then`,
+/// `of`, `in` or an operator ends a block, `in` two of them, and a lambda stands in a section.
 pub fn worked_trees()
     ensures { WorkedTrees }
+{}
+
+/// Equality of trees up to trivia, empty parts and `;` is an equality: each tree is the same as itself,
+/// and it goes both ways and along.
+pub fn same_is_equality()
+    ensures { SameIsEquality }
+{}
+
+/// The tree of `a = \x -> x + 1` with the lambda as the left operand of the `+` is a tree of no items.
+pub fn lambda_before_plus_yields_nothing()
+    ensures { LambdaBeforePlusYieldsNothing }
+{}
+
+/// No tree yields the lexemes of `a :: b :: c`, whatever blanks stand between them.
+pub fn twice_annotated_has_no_tree()
+    ensures { TwiceAnnotatedHasNoTree }
+{}
+
+/// No tree yields the lexemes of `f = class`.
+pub fn class_has_no_tree()
+    ensures { ClassHasNoTree }
 {}

@@ -1,0 +1,136 @@
+-- A test of the layout rule that computes: what passes it stands as the rule says.
+use Rattle.std.proofs.Common.{◌≡◌, ◌⊎◌, ◌≤◌, ◌<◌, ℕ, zero, suc, ◌+◌, ◌==◌, nat_lt, not, ◌||◌, ◌&&◌, Bool, true, false, List, [], ◌∷◌, drop, refl, inl, inr, arith}
+use Rattle.std.specs.List.{AllByRecursion, list_any}
+use Rattle.std.proofs.lemmas.Bool.{ltb-true, lt-ltb, eqb-true}
+use Rattle.hr_rules.specs.declared.block.Placed.{Placed}
+use Rattle.hr_rules.specs.Blocks.{at_margin, ends_block}
+use Rattle.hr_tree.specs.declared.lists.Layout.{Layout}
+use Rattle.hr_grammar.specs.Spans.{Span, Stretch}
+use Rattle.hr_grammar.specs.Offside.{column_of, IsAtMargin, PartsBegin, begins, is_braced, StandsRight, AllStandRight, IsOffside, StandsAs, StandsWell}
+
+abbrev stands_right : List Span → Span → ℕ → ℕ → Placed → Bool
+stands_right spans block n i next =
+    not next.first || (is_braced spans block i || (nat_lt n next.pos.col || ((i == block.start) || ((next.pos.col == n) && list_any (λ s. s == i) (begins block.start block.pieces)))))
+
+one_of : (f b l a c d : Bool) → f ≡ true → b ≡ false → (not f || (b || (l || (a || (c && d))))) ≡ true → (l ≡ true) ⊎ ((a ≡ true) ⊎ ((c ≡ true) × (d ≡ true)))
+one_of false b l a c d f e r = let no : ⊥ = cc in elim no [ ]
+one_of true true l a c d f e r = let no : ⊥ = cc in elim no [ ]
+one_of true false true a c d f e r = inl refl
+one_of true false false true c d f e r = inr (inl refl)
+one_of true false false false true true f e r = inr (inr (refl, refl))
+one_of true false false false true false f e r = let no : ⊥ = cc in elim no [ ]
+one_of true false false false false d f e r = let no : ⊥ = cc in elim no [ ]
+
+stands_right_is : (spans : List Span) (block : Span) (n i : ℕ) (next : Placed) → stands_right spans block n i next ≡ true → StandsRight spans block n i next
+stands_right_is spans block n i next r first braced = by (one_of next.first (is_braced spans block i) (nat_lt n next.pos.col) (i == block.start) (next.pos.col == n) (list_any (λ s. s == i) (begins block.start block.pieces)) first braced r)
+  where
+    by : (nat_lt n next.pos.col ≡ true) ⊎ (((i == block.start) ≡ true) ⊎ (((next.pos.col == n) ≡ true) × (list_any (λ s. s == i) (begins block.start block.pieces) ≡ true)))
+        → (n < next.pos.col) ⊎ ((i ≡ block.start) ⊎ ((next.pos.col ≡ n) × (list_any (λ s. s == i) (begins block.start block.pieces) ≡ true)))
+    by (inl l) = inl (ltb-true n next.pos.col l)
+    by (inr (inl a)) = inr (inl (eqb-true i block.start a))
+    by (inr (inr both)) = inr (inr (eqb-true next.pos.col n both.0, both.1))
+
+both_true : (a b : Bool) → (a && b) ≡ true → (a ≡ true) × (b ≡ true)
+both_true true true e = (refl, refl)
+both_true true false e = let no : ⊥ = cc in elim no [ ]
+both_true false b e = let no : ⊥ = cc in elim no [ ]
+
+abbrev all_right : List Span → Span → ℕ → ℕ → ℕ → List Placed → Bool
+all_right spans block n i zero rest = true
+all_right spans block n i (suc k) [] = true
+all_right spans block n i (suc k) (next ∷ rest) = stands_right spans block n i next && all_right spans block n (suc i) k rest
+
+all_right_is : (spans : List Span) (block : Span) (n i k : ℕ) (rest : List Placed) → all_right spans block n i k rest ≡ true → AllStandRight spans block n i k rest
+all_right_is spans block n i zero rest r = tt
+all_right_is spans block n i (suc k) [] r = tt
+all_right_is spans block n i (suc k) (next ∷ rest) r =
+    let both = both_true (stands_right spans block n i next) (all_right spans block n (suc i) k rest) r in
+    (stands_right_is spans block n i next both.0, all_right_is spans block n (suc i) k rest both.1)
+
+abbrev is_at_margin : ℕ → List Placed → Bool
+is_at_margin n [] = false
+is_at_margin n (next ∷ rest) = at_margin n next
+
+is_at_margin_is : (n : ℕ) (rest : List Placed) → is_at_margin n rest ≡ true → IsAtMargin n rest
+is_at_margin_is n [] r = let no : ⊥ = cc in elim no [ ]
+is_at_margin_is n (next ∷ rest) r = r
+
+abbrev parts_begin : ℕ → List Stretch → List Placed → Bool
+parts_begin n [] rest = true
+parts_begin n (Stretch.Semicolon ∷ pieces) rest = parts_begin n pieces (drop 1 rest)
+parts_begin n (Stretch.Part k ∷ []) rest = true
+parts_begin n (Stretch.Part k ∷ (Stretch.Semicolon ∷ pieces)) rest = parts_begin n (Stretch.Semicolon ∷ pieces) (drop k rest)
+parts_begin n (Stretch.Part k ∷ (Stretch.Part j ∷ pieces)) rest = is_at_margin n (drop k rest) && parts_begin n (Stretch.Part j ∷ pieces) (drop k rest)
+
+parts_begin_is : (n : ℕ) (pieces : List Stretch) (rest : List Placed) → parts_begin n pieces rest ≡ true → PartsBegin n pieces rest
+parts_begin_is n [] rest r = tt
+parts_begin_is n (Stretch.Semicolon ∷ pieces) rest r = parts_begin_is n pieces (drop 1 rest) r
+parts_begin_is n (Stretch.Part k ∷ []) rest r = tt
+parts_begin_is n (Stretch.Part k ∷ (Stretch.Semicolon ∷ pieces)) rest r = parts_begin_is n (Stretch.Semicolon ∷ pieces) (drop k rest) r
+parts_begin_is n (Stretch.Part k ∷ (Stretch.Part j ∷ pieces)) rest r =
+    let both = both_true (is_at_margin n (drop k rest)) (parts_begin n (Stretch.Part j ∷ pieces) (drop k rest)) r in
+    (is_at_margin_is n (drop k rest) both.0, parts_begin_is n (Stretch.Part j ∷ pieces) (drop k rest) both.1)
+
+abbrev are_none : List Stretch → Bool
+are_none [] = true
+are_none (piece ∷ pieces) = false
+
+are_none_is : (pieces : List Stretch) → are_none pieces ≡ true → pieces ≡ []
+are_none_is [] r = refl
+are_none_is (piece ∷ pieces) r = let no : ⊥ = cc in elim no [ ]
+
+-- the points of a block that has lexemes, and of one that is left empty
+abbrev has_points : List Span → List Placed → Span → ℕ → Bool
+has_points spans lexemes block n =
+    parts_begin n block.pieces (drop block.start lexemes)
+    && (all_right spans block n block.start block.extent (drop block.start lexemes) && ends_block n block.kind block.ending (drop (block.start + block.extent) lexemes))
+
+abbrev is_offside : List Span → List Placed → Span → ℕ → Bool
+is_offside spans lexemes block n =
+    (n == column_of (drop block.start lexemes)) && ((not (nat_lt block.enclosing n) && are_none block.pieces) || (nat_lt block.enclosing n && has_points spans lexemes block n))
+
+empty_or : (l e p : Bool) → ((not l && e) || (l && p)) ≡ true → (l ≡ false → e ≡ true) × (l ≡ true → p ≡ true)
+empty_or true e true r = (λ f. let no : ⊥ = cc in elim no [ ], λ t. refl)
+empty_or true e false r = let no : ⊥ = cc in elim no [ ]
+empty_or false true p r = (λ f. refl, λ t. let no : ⊥ = cc in elim no [ ])
+empty_or false false p r = let no : ⊥ = cc in elim no [ ]
+
+not_less : (a b : ℕ) → b ≤ a → nat_lt a b ≡ false
+not_less a b h = by (nat_lt a b) refl
+  where
+    by : (t : Bool) → nat_lt a b ≡ t → t ≡ false
+    by false e = refl
+    by true e = let l : a < b = ltb-true a b e in let no : ⊥ = omega (arith, l, h) in elim no [ ]
+
+is_offside_is : (spans : List Span) (lexemes : List Placed) (block : Span) (n : ℕ) → is_offside spans lexemes block n ≡ true → IsOffside spans lexemes block n
+is_offside_is spans lexemes block n r =
+    let both = both_true (n == column_of (drop block.start lexemes)) ((not (nat_lt block.enclosing n) && are_none block.pieces) || (nat_lt block.enclosing n && has_points spans lexemes block n)) r in
+    let ways = empty_or (nat_lt block.enclosing n) (are_none block.pieces) (has_points spans lexemes block n) both.1 in
+    let points = λ (l : block.enclosing < n). both_true (parts_begin n block.pieces (drop block.start lexemes))
+    (all_right spans block n block.start block.extent (drop block.start lexemes) && ends_block n block.kind block.ending (drop (block.start + block.extent) lexemes)) (ways.1 (lt-ltb block.enclosing n l)) in
+    let others = λ (l : block.enclosing < n). both_true (all_right spans block n block.start block.extent (drop block.start lexemes)) (ends_block n block.kind block.ending (drop (block.start + block.extent) lexemes)) (points l).1 in
+    record {
+      column = eqb-true n (column_of (drop block.start lexemes)) both.0;
+      empty = λ h. are_none_is block.pieces (ways.0 (not_less block.enclosing n h));
+      parts = λ l. parts_begin_is n block.pieces (drop block.start lexemes) (points l).0;
+      stands = λ l. all_right_is spans block n block.start block.extent (drop block.start lexemes) (others l).0;
+      ends = λ l. (others l).1;
+    }
+
+abbrev stands_as : List Span → List Placed → Span → Layout → Bool
+stands_as spans lexemes block (Layout.Implicit col) = is_offside spans lexemes block col
+stands_as spans lexemes block (Layout.Explicit left right) = true
+
+stands_as_is : (spans : List Span) (lexemes : List Placed) (block : Span) (layout : Layout) → stands_as spans lexemes block layout ≡ true → StandsAs spans lexemes block layout
+stands_as_is spans lexemes block (Layout.Implicit col) r = is_offside_is spans lexemes block col r
+stands_as_is spans lexemes block (Layout.Explicit left right) r = tt
+
+abbrev pub all_stand_well : List Span → List Placed → List Span → Bool
+all_stand_well spans lexemes [] = true
+all_stand_well spans lexemes (block ∷ blocks) = stands_as spans lexemes block block.layout && all_stand_well spans lexemes blocks
+
+pub all_stand_well_is : (spans : List Span) (lexemes : List Placed) (blocks : List Span) → all_stand_well spans lexemes blocks ≡ true → AllByRecursion (StandsWell spans lexemes) blocks
+all_stand_well_is spans lexemes [] r = tt
+all_stand_well_is spans lexemes (block ∷ blocks) r =
+    let both = both_true (stands_as spans lexemes block block.layout) (all_stand_well spans lexemes blocks) r in
+    (stands_as_is spans lexemes block block.layout both.0, all_stand_well_is spans lexemes blocks both.1)
