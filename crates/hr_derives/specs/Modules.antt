@@ -1,0 +1,64 @@
+-- The relation by cases, grammar and layout together, for the whole grammar: the levels, and modules.
+use Rattle.std.specs.Prelude.{ℕ, zero, suc, ◌≡◌, Bool, true, false, List, [], Option, Some, None}
+use Rattle.hr_base.specs.declared.lexeme.Ending.{Ending}
+use Rattle.hr_base.specs.declared.lexeme.Item.{Item}
+use Rattle.hr_rules.specs.declared.block.BlockKind.{BlockKind}
+use Rattle.hr_rules.specs.Blocks.{placed_of}
+use Rattle.hr_tree.specs.declared.lists.Block.{Block}
+use Rattle.hr_tree.specs.declared.expressions.Decl.{Decl}
+use Rattle.hr_tree.specs.declared.expressions.Alt.{Alt}
+use Rattle.hr_tree.specs.declared.modules.Module.{Module}
+use Rattle.hr_grammar.specs.Nodes.{DeclPlace}
+use Rattle.hr_derives.specs.Readings.{Reading, ◌▷◌, given, maybe}
+use Rattle.hr_derives.specs.Derivations.{Derivations, no_derivations}
+use Rattle.hr_derives.specs.Types.{ty_over}
+use Rattle.hr_derives.specs.Patterns.{pat_over}
+use Rattle.hr_derives.specs.Blocks.{Parts, block_reading}
+use Rattle.hr_derives.specs.Expressions.{exp_over}
+use Rattle.hr_derives.specs.Declarations.{decl_over, alt_over}
+use Rattle.hr_derives.specs.Imports.{header_reading}
+
+-- in a module's body imports come before the other parts; a part of another block has the block's place
+abbrev pub comes_behind : DeclPlace → DeclPlace → Bool
+comes_behind DeclPlace.First DeclPlace.First = true
+comes_behind DeclPlace.First DeclPlace.Top = true
+comes_behind DeclPlace.Top DeclPlace.Top = true
+comes_behind DeclPlace.Local DeclPlace.Local = true
+comes_behind _ _ = false
+
+-- the place with which a block begins
+abbrev pub first_place : DeclPlace → DeclPlace
+first_place DeclPlace.Local = DeclPlace.Local
+first_place _ = DeclPlace.First
+
+abbrev pub kind_at : DeclPlace → BlockKind
+kind_at DeclPlace.Local = BlockKind.Declarations
+kind_at _ = BlockKind.Body
+
+abbrev pub decl_parts : Derivations → Parts Decl
+decl_parts below n place next decl ending = given (comes_behind place next ≡ true) (below.decl n next decl ending)
+
+-- the place of an alternative says nothing
+abbrev pub alt_parts : Derivations → Parts Alt
+alt_parts below n place next alt ending = given (next ≡ place) (below.alt n alt ending)
+
+-- the trees that are read on some level, with fewer than so many levels below them. The levels are those of the
+-- grammar: a declaration, an expression, a pattern, a type, an alternative and a block are one level each
+abbrev pub derivations : ℕ → Derivations
+derivations zero = no_derivations
+derivations (suc levels) = record {
+  ty = ty_over (derivations levels);
+  pat = pat_over (derivations levels);
+  exp = exp_over (derivations levels);
+  decl = decl_over (derivations levels);
+  alt = alt_over (derivations levels);
+  declarations = λ m place. block_reading (decl_parts (derivations levels)) (kind_at place) m (first_place place);
+  alternatives = λ m. block_reading (alt_parts (derivations levels)) BlockKind.Alternatives m DeclPlace.Local;
+}
+
+abbrev pub module_reading : ℕ → Module → Reading
+module_reading levels tree = maybe header_reading tree.header ▷ (derivations levels).declarations 0 DeclPlace.Top tree.body
+
+-- the items are read as the tree, and none is left
+abbrev pub Derives : ℕ → Module → List Item → Type 0
+Derives levels tree items = module_reading levels tree (placed_of items) []

@@ -1,0 +1,6 @@
+//! The relation by cases, grammar and layout together, that the parser's proof goes by. Nothing here runs.
+#![tactic(auto)]
+
+mod laws;
+
+pub use laws::types_give;
