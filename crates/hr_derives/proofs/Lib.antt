@@ -1,2 +1,4 @@
+pub mod Imports
+pub mod Patterns
 pub mod Readings
 pub mod Types

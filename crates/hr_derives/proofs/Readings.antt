@@ -5,6 +5,7 @@ use Rattle.hr_base.specs.declared.lexeme.Ending.{Ending}
 use Rattle.hr_base.specs.declared.lexeme.Item.{Item}
 use Rattle.hr_rules.specs.declared.block.Placed.{Placed}
 use Rattle.hr_tree.specs.declared.lists.Listed.{Listed}
+use Rattle.hr_tree.specs.declared.lists.Operand.{Operand}
 use Rattle.hr_tree.specs.declared.names.Operator.{Operator}
 use Rattle.hr_tree.specs.Names.{maybe_item, maybe_operator, operator_items}
 use Rattle.hr_tree.specs.Lists.{listed_items}
@@ -93,3 +94,16 @@ inside_gives g = record { gives = λ ts us r. (g r.0).gives ts us r.1 }
 
 pub ends_as_gives : {items : List Item} (turn : Ending → Ending) {reading : Ending → Reading} → ((ending : Ending) → Gives items (reading ending)) → (ending : Ending) → Gives items (ends_as turn reading ending)
 ends_as_gives turn g ending = record { gives = λ ts us r. (g r.0).gives ts us r.2 }
+
+-- an operand that an operator follows, with no minus before it or with one that was read
+pub operand_gives : {T : Type 0} {rest : List Item} {part operator behind : Reading} (items_of : T → List Item) (operand : Operand T) → Gives (items_of operand.part) part
+    → Gives (maybe_operator operand.operator) operator → Gives rest behind → Gives ((items_of operand.part ++ maybe_operator operand.operator) ++ rest) (part ▷ operator ▷ behind)
+operand_gives {rest = rest} items_of operand g h k =
+    same_gives (sym (append_assoc (items_of operand.part) (maybe_operator operand.operator) rest)) (then_gives g (then_gives h k))
+
+-- the last operand
+pub last_operand_gives : {T : Type 0} (items_of : T → List Item) (operand : Operand T) → operand.operator ≡ None
+    → items_of operand.part ≡ (items_of operand.part ++ maybe_operator operand.operator) ++ []
+last_operand_gives items_of operand e =
+    sym (append_nothing (items_of operand.part)) ∙ sym (ap (λ o. items_of operand.part ++ maybe_operator o) e)
+    ∙ sym (append_nothing (items_of operand.part ++ maybe_operator operand.operator))

@@ -3,4 +3,4 @@
 
 mod laws;
 
-pub use laws::types_give;
+pub use laws::{imports_give, patterns_give, types_give};
