@@ -12,7 +12,7 @@ use Rattle.hr_tree.specs.Lists.{listed_items}
 use Rattle.hr_derives.specs.Readings.{Reading, never, nothing, takes, ◌▷◌, given, one, take_all, spelled, maybe, there, in_turn, separated, inside, ends_as}
 use Rattle.hr_derives.specs.Laws.{items_left, Gives}
 
-append_assoc : {A : Type 0} (xs ys zs : List A) → (xs ++ ys) ++ zs ≡ xs ++ (ys ++ zs)
+pub append_assoc : {A : Type 0} (xs ys zs : List A) → (xs ++ ys) ++ zs ≡ xs ++ (ys ++ zs)
 append_assoc [] ys zs = refl
 append_assoc (x ∷ xs) ys zs = ap (λ l. x ∷ l) (append_assoc xs ys zs)
 

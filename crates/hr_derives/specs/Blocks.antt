@@ -58,10 +58,11 @@ implicit_reading parts kind m place col pieces ts us =
     ((opens m ts ≡ Opened.Empty) × (pieces ≡ []) × (col ≡ column_of ts) × (us ≡ mark true ts))
     ⊎ ((opens m ts ≡ Opened.Implicit col) × pieces_reading parts kind col place Ending.Nothing pieces ts us)
 
--- a block behind its opening word, where the block round it stands at column m
+-- by its braces or its column, where the block round it stands at column m
+abbrev pub layout_reading : {T : Type 0} → Parts T → BlockKind → ℕ → DeclPlace → Layout → List (Piece T) → Reading
+layout_reading parts kind m place (Layout.Implicit col) pieces = implicit_reading parts kind m place col pieces
+layout_reading parts kind m place (Layout.Explicit left right) pieces = one 0 IsLeftBrace left ▷ braced_reading parts place true pieces ▷ one 0 IsRightBrace right
+
+-- a block behind its opening word
 abbrev pub block_reading : {T : Type 0} → Parts T → BlockKind → ℕ → DeclPlace → Block T → Reading
-block_reading parts kind m place block = by block.layout
-  where
-    by : Layout → Reading
-    by (Layout.Implicit col) = implicit_reading parts kind m place col block.pieces
-    by (Layout.Explicit left right) = one 0 IsLeftBrace left ▷ braced_reading parts place true block.pieces ▷ one 0 IsRightBrace right
+block_reading parts kind m place block = layout_reading parts kind m place block.layout block.pieces

@@ -7,11 +7,18 @@ use Rattle.hr_tree.specs.declared.types.Ty.{Ty}
 use Rattle.hr_tree.specs.declared.patterns.Pat.{Pat}
 use Rattle.hr_tree.specs.declared.modules.Import.{Import}
 use Rattle.hr_tree.specs.declared.modules.Header.{Header}
-use Rattle.hr_tree.specs.Yields.{ty_items, pat_items, import_items, header_items}
-use Rattle.hr_grammar.specs.Nodes.{TyPlace, PatPlace}
+use Rattle.hr_tree.specs.declared.modules.Module.{Module}
+use Rattle.hr_tree.specs.declared.lists.Block.{Block}
+use Rattle.hr_tree.specs.declared.expressions.Exp.{Exp}
+use Rattle.hr_tree.specs.declared.expressions.Decl.{Decl}
+use Rattle.hr_tree.specs.declared.expressions.Alt.{Alt}
+use Rattle.hr_tree.specs.Lists.{block_items}
+use Rattle.hr_tree.specs.Yields.{ty_items, pat_items, exp_items, decl_items, alt_items, import_items, header_items, module_items}
+use Rattle.hr_grammar.specs.Nodes.{TyPlace, PatPlace, ExpPlace, DeclPlace}
 use Rattle.hr_derives.specs.Readings.{Reading, maybe}
 use Rattle.hr_derives.specs.Imports.{import_reading, header_reading}
-use Rattle.hr_derives.specs.Modules.{derivations}
+use Rattle.hr_derives.specs.Modules.{derivations, Derives}
+use Rattle.hr_derives.specs.Derivations.{Derivations}
 
 -- the items of the lexemes that are left
 abbrev pub items_left : List Placed → List Item
@@ -31,3 +38,20 @@ PatternsGive = (levels n : ℕ) (place : PatPlace) (pat : Pat) → Gives (pat_it
 pub record ImportsGive : Type 0 where
   pub imports : (n : ℕ) (import : Import) → Gives (import_items import) (import_reading n import)
   pub headers : (header : Option Header) → Gives (header_items header) (maybe header_reading header)
+
+-- the trees that are read on some level take their own items
+pub record AllGive (below : Derivations) : Type 0 where
+  pub ty : (n : ℕ) (place : TyPlace) (ty : Ty) → Gives (ty_items ty) (below.ty n place ty)
+  pub pat : (n : ℕ) (place : PatPlace) (pat : Pat) → Gives (pat_items pat) (below.pat n place pat)
+  pub exp : (n : ℕ) (free : Bool) (place : ExpPlace) (exp : Exp) (ending : Ending) → Gives (exp_items exp) (below.exp n free place exp ending)
+  pub decl : (n : ℕ) (place : DeclPlace) (decl : Decl) (ending : Ending) → Gives (decl_items decl) (below.decl n place decl ending)
+  pub alt : (n : ℕ) (alt : Alt) (ending : Ending) → Gives (alt_items alt) (below.alt n alt ending)
+  pub declarations : (m : ℕ) (place : DeclPlace) (block : Block Decl) → Gives (block_items decl_items block) (below.declarations m place block)
+  pub alternatives : (m : ℕ) (block : Block Alt) → Gives (block_items alt_items block) (below.alternatives m block)
+
+abbrev pub LevelsGive : Type 0
+LevelsGive = (levels : ℕ) → AllGive (derivations levels)
+
+-- the items that are read as a module are those that it yields
+abbrev pub ModulesGive : Type 0
+ModulesGive = (levels : ℕ) (tree : Module) (items : List Item) → Derives levels tree items → items ≡ module_items tree

@@ -1,5 +1,5 @@
 //! Laws of the relation.
-ghost use Rattle.hr_derives.specs.Laws.{ImportsGive, PatternsGive, TypesGive};
+ghost use Rattle.hr_derives.specs.Laws.{ImportsGive, LevelsGive, ModulesGive, PatternsGive, TypesGive};
 
 /// A type that is read takes its own items.
 pub fn types_give()
@@ -14,4 +14,14 @@ pub fn patterns_give()
 /// Imports and a module's header, where they are read, take their own items.
 pub fn imports_give()
     ensures { ImportsGive }
+{}
+
+/// Each tree that is read takes its own items, blocks and their parts too.
+pub fn levels_give()
+    ensures { LevelsGive }
+{}
+
+/// The items that are read as a module are those that it yields.
+pub fn modules_give()
+    ensures { ModulesGive }
 {}
