@@ -1,6 +1,12 @@
 pub mod Blocks
 pub mod Declarations
 pub mod Expressions
+pub mod Grammatical
+pub mod GrammaticalBlocks
+pub mod GrammaticalDeclarations
+pub mod GrammaticalExpressions
+pub mod GrammaticalLeaves
+pub mod GrammaticalModules
 pub mod Imports
 pub mod Modules
 pub mod Patterns

@@ -15,7 +15,7 @@ use Rattle.hr_tree.specs.Lists.{block_items}
 use Rattle.hr_tree.specs.Yields.{decl_items, alt_items, module_items}
 use Rattle.hr_grammar.specs.Nodes.{DeclPlace}
 use Rattle.hr_derives.specs.Derivations.{Derivations, no_derivations}
-use Rattle.hr_derives.specs.Modules.{comes_behind, first_place, kind_at, decl_parts, alt_parts, derivations, module_reading}
+use Rattle.hr_derives.specs.Modules.{comes_behind, decl_parts, alt_parts, declarations_over, derivations, module_reading}
 use Rattle.hr_derives.specs.Laws.{items_left, Gives, AllGive, LevelsGive, ModulesGive}
 use Rattle.hr_derives.proofs.Readings.{append_nothing, never_gives, then_gives, given_gives}
 use Rattle.hr_derives.proofs.Types.{types_give_lem}
@@ -30,6 +30,11 @@ decl_parts_give below each n place next decl ending = given_gives (comes_behind 
 
 alt_parts_give : (below : Derivations) → AllGive below → PartsGive alt_items (alt_parts below)
 alt_parts_give below each n place next alt ending = given_gives (next ≡ place) (each.alt n alt ending)
+
+declarations_give : (below : Derivations) → AllGive below → (m : ℕ) (place : DeclPlace) (block : Block Decl) → Gives (block_items decl_items block) (declarations_over below m place block)
+declarations_give below each m DeclPlace.First block = never_gives
+declarations_give below each m DeclPlace.Top block = block_gives decl_items (decl_parts below) (decl_parts_give below each) BlockKind.Body m DeclPlace.First block
+declarations_give below each m DeclPlace.Local block = block_gives decl_items (decl_parts below) (decl_parts_give below each) BlockKind.Declarations m DeclPlace.Local block
 
 pub levels_give_lem : LevelsGive
 levels_give_lem zero = record {
@@ -47,8 +52,7 @@ levels_give_lem (suc levels) = record {
   exp = exp_over_gives (derivations levels) (levels_give_lem levels);
   decl = decl_over_gives (derivations levels) (levels_give_lem levels);
   alt = alt_over_gives (derivations levels) (levels_give_lem levels);
-  declarations = λ m place block.
-      block_gives decl_items (decl_parts (derivations levels)) (decl_parts_give (derivations levels) (levels_give_lem levels)) (kind_at place) m (first_place place) block;
+  declarations = declarations_give (derivations levels) (levels_give_lem levels);
   alternatives = λ m block.
       block_gives alt_items (alt_parts (derivations levels)) (alt_parts_give (derivations levels) (levels_give_lem levels)) BlockKind.Alternatives m DeclPlace.Local block;
 }

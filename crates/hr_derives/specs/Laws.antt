@@ -14,7 +14,8 @@ use Rattle.hr_tree.specs.declared.expressions.Decl.{Decl}
 use Rattle.hr_tree.specs.declared.expressions.Alt.{Alt}
 use Rattle.hr_tree.specs.Lists.{block_items}
 use Rattle.hr_tree.specs.Yields.{ty_items, pat_items, exp_items, decl_items, alt_items, import_items, header_items, module_items}
-use Rattle.hr_grammar.specs.Nodes.{TyPlace, PatPlace, ExpPlace, DeclPlace}
+use Rattle.hr_grammar.specs.Nodes.{Nodes, TyPlace, PatPlace, ExpPlace, DeclPlace}
+use Rattle.hr_grammar.specs.Yields.{nodes, nesting_limit, IsModule, Yields, DeepYields}
 use Rattle.hr_derives.specs.Readings.{Reading, maybe}
 use Rattle.hr_derives.specs.Imports.{import_reading, header_reading}
 use Rattle.hr_derives.specs.Modules.{derivations, Derives}
@@ -55,3 +56,22 @@ LevelsGive = (levels : ℕ) → AllGive (derivations levels)
 -- the items that are read as a module are those that it yields
 abbrev pub ModulesGive : Type 0
 ModulesGive = (levels : ℕ) (tree : Module) (items : List Item) → Derives levels tree items → items ≡ module_items tree
+
+-- the trees that are read on some level are trees of the grammar on that level
+pub record AllAre (read : Derivations) (allowed : Nodes) : Type 0 where
+  pub ty : (n : ℕ) (place : TyPlace) (ty : Ty) (ts us : List Placed) → read.ty n place ty ts us → allowed.ty place ty
+  pub pat : (n : ℕ) (place : PatPlace) (pat : Pat) (ts us : List Placed) → read.pat n place pat ts us → allowed.pat place pat
+  pub exp : (n : ℕ) (free : Bool) (place : ExpPlace) (exp : Exp) (ending : Ending) (ts us : List Placed) → read.exp n free place exp ending ts us → allowed.exp free place exp
+  pub decl : (n : ℕ) (place : DeclPlace) (decl : Decl) (ending : Ending) (ts us : List Placed) → read.decl n place decl ending ts us → allowed.decl place decl
+  pub alt : (n : ℕ) (alt : Alt) (ending : Ending) (ts us : List Placed) → read.alt n alt ending ts us → allowed.alt alt
+  pub declarations : (m : ℕ) (place : DeclPlace) (block : Block Decl) (ts us : List Placed) → read.declarations m place block ts us → allowed.declarations place block
+  pub alternatives : (m : ℕ) (block : Block Alt) (ts us : List Placed) → read.alternatives m block ts us → allowed.alternatives block
+
+abbrev pub LevelsAre : Type 0
+LevelsAre = (levels : ℕ) → AllAre (derivations levels) (nodes levels)
+
+-- what is read as a module is yielded by a tree of the grammar, within the limit on nesting and without it
+pub record ModulesAre : Type 0 where
+  pub grammar : (levels : ℕ) (tree : Module) (items : List Item) → Derives levels tree items → IsModule levels tree
+  pub yields : (tree : Module) (items : List Item) → Derives nesting_limit tree items → Yields tree (record { list = items; tail = tree.tail })
+  pub deep : (levels : ℕ) (tree : Module) (items : List Item) → Derives levels tree items → DeepYields tree (record { list = items; tail = tree.tail })

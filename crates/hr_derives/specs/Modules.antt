@@ -9,7 +9,7 @@ use Rattle.hr_tree.specs.declared.expressions.Decl.{Decl}
 use Rattle.hr_tree.specs.declared.expressions.Alt.{Alt}
 use Rattle.hr_tree.specs.declared.modules.Module.{Module}
 use Rattle.hr_grammar.specs.Nodes.{DeclPlace}
-use Rattle.hr_derives.specs.Readings.{Reading, ◌▷◌, given, maybe}
+use Rattle.hr_derives.specs.Readings.{Reading, never, ◌▷◌, given, maybe}
 use Rattle.hr_derives.specs.Derivations.{Derivations, no_derivations}
 use Rattle.hr_derives.specs.Types.{ty_over}
 use Rattle.hr_derives.specs.Patterns.{pat_over}
@@ -26,21 +26,21 @@ comes_behind DeclPlace.Top DeclPlace.Top = true
 comes_behind DeclPlace.Local DeclPlace.Local = true
 comes_behind _ _ = false
 
--- the place with which a block begins
-abbrev pub first_place : DeclPlace → DeclPlace
-first_place DeclPlace.Local = DeclPlace.Local
-first_place _ = DeclPlace.First
-
-abbrev pub kind_at : DeclPlace → BlockKind
-kind_at DeclPlace.Local = BlockKind.Declarations
-kind_at _ = BlockKind.Body
-
 abbrev pub decl_parts : Derivations → Parts Decl
 decl_parts below n place next decl ending = given (comes_behind place next ≡ true) (below.decl n next decl ending)
 
 -- the place of an alternative says nothing
 abbrev pub alt_parts : Derivations → Parts Alt
 alt_parts below n place next alt ending = given (next ≡ place) (below.alt n alt ending)
+
+-- a block of declarations: no block has the place of imports alone
+abbrev pub declarations_over : Derivations → ℕ → DeclPlace → Block Decl → Reading
+declarations_over below m DeclPlace.First block = never
+declarations_over below m DeclPlace.Top block = block_reading (decl_parts below) BlockKind.Body m DeclPlace.First block
+declarations_over below m DeclPlace.Local block = block_reading (decl_parts below) BlockKind.Declarations m DeclPlace.Local block
+
+abbrev pub alternatives_over : Derivations → ℕ → Block Alt → Reading
+alternatives_over below m block = block_reading (alt_parts below) BlockKind.Alternatives m DeclPlace.Local block
 
 -- the trees that are read on some level, with fewer than so many levels below them. The levels are those of the
 -- grammar: a declaration, an expression, a pattern, a type, an alternative and a block are one level each
@@ -52,8 +52,8 @@ derivations (suc levels) = record {
   exp = exp_over (derivations levels);
   decl = decl_over (derivations levels);
   alt = alt_over (derivations levels);
-  declarations = λ m place. block_reading (decl_parts (derivations levels)) (kind_at place) m (first_place place);
-  alternatives = λ m. block_reading (alt_parts (derivations levels)) BlockKind.Alternatives m DeclPlace.Local;
+  declarations = declarations_over (derivations levels);
+  alternatives = alternatives_over (derivations levels);
 }
 
 abbrev pub module_reading : ℕ → Module → Reading

@@ -1,5 +1,5 @@
 //! Laws of the relation.
-ghost use Rattle.hr_derives.specs.Laws.{ImportsGive, LevelsGive, ModulesGive, PatternsGive, TypesGive};
+ghost use Rattle.hr_derives.specs.Laws.{ImportsGive, LevelsAre, LevelsGive, ModulesAre, ModulesGive, PatternsGive, TypesGive};
 
 /// A type that is read takes its own items.
 pub fn types_give()
@@ -24,4 +24,14 @@ pub fn levels_give()
 /// The items that are read as a module are those that it yields.
 pub fn modules_give()
     ensures { ModulesGive }
+{}
+
+/// Each tree that is read is a tree of the grammar, on the same level.
+pub fn levels_are()
+    ensures { LevelsAre }
+{}
+
+/// What is read as a module is yielded by a tree of the grammar.
+pub fn modules_are()
+    ensures { ModulesAre }
 {}

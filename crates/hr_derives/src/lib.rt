@@ -3,4 +3,6 @@
 
 mod laws;
 
-pub use laws::{imports_give, levels_give, modules_give, patterns_give, types_give};
+pub use laws::{
+    imports_give, levels_are, levels_give, modules_are, modules_give, patterns_give, types_give,
+};
