@@ -1,5 +1,5 @@
 -- A block that is read takes its own items, if its parts do.
-use Rattle.std.proofs.Common.{◌≡◌, ℕ, Bool, true, false, List, [], ◌∷◌, ◌++◌, refl, sym, ap, ap₂, ◌∙◌, inl, inr}
+use Rattle.std.proofs.Common.{◌≡◌, ℕ, Bool, true, false, List, [], ◌∷◌, ◌++◌, length, drop, refl, sym, ap, ap₂, ◌∙◌, subst, inl, inr}
 use Rattle.std.specs.List.{flat_map}
 use Rattle.hr_base.specs.declared.lexeme.Ending.{Ending}
 use Rattle.hr_base.specs.declared.lexeme.Item.{Item}
@@ -14,7 +14,7 @@ use Rattle.hr_grammar.specs.Words.{IsLeftBrace, IsRightBrace, IsSemicolon}
 use Rattle.hr_grammar.specs.Nodes.{DeclPlace}
 use Rattle.hr_derives.specs.Readings.{Reading}
 use Rattle.hr_derives.specs.Blocks.{Parts, takes_semicolon, stops, starts, part_then, pieces_reading, braced_reading, implicit_reading, layout_reading, block_reading}
-use Rattle.hr_derives.specs.Laws.{items_left, Gives}
+use Rattle.hr_derives.specs.Laws.{items_left, AreLeft, Gives}
 use Rattle.hr_derives.proofs.Readings.{append_nothing, same_gives, nothing_gives, then_gives, given_gives, one_gives}
 
 -- a mark changes no item
@@ -26,18 +26,22 @@ semicolon_items : (n : ℕ) (item : Item) (ts us : List Placed) → takes_semico
 semicolon_items n item [] us h = elim h [ ]
 semicolon_items n item (next ∷ ts) us h = ap₂ (λ (i : Item) (l : List Placed). i ∷ items_left l) h.1 (sym h.2)
 
+semicolon_leaves : (n : ℕ) (item : Item) (ts us : List Placed) → takes_semicolon n item ts us → AreLeft us (drop 1 ts)
+semicolon_leaves n item [] us h = elim h [ ]
+semicolon_leaves n item (next ∷ ts) us h = inl h.2
+
 semicolon_gives : (n : ℕ) (item : Item) → Gives (item ∷ []) (takes_semicolon n item)
-semicolon_gives n item = record { gives = semicolon_items n item }
+semicolon_gives n item = record { gives = semicolon_items n item; leaves = semicolon_leaves n item }
 
 stops_gives : (kind : BlockKind) (n : ℕ) (ending : Ending) → Gives [] (stops kind n ending)
-stops_gives kind n ending = record { gives = λ ts us r. ap items_left (sym r.1) }
+stops_gives kind n ending = record { gives = λ ts us r. ap items_left (sym r.1); leaves = λ ts us r. inl r.1 }
 
 starts_gives : (n : ℕ) (ending : Ending) → Gives [] (starts n ending)
-starts_gives n ending = record { gives = λ ts us r. sym (marked false ts) ∙ ap items_left (sym r.1) }
+starts_gives n ending = record { gives = λ ts us r. sym (marked false ts) ∙ ap items_left (sym r.1); leaves = λ ts us r. inr (false, r.1) }
 
 part_then_gives : {items others : List Item} {part rest : DeclPlace → Ending → Reading} → ((next : DeclPlace) (end : Ending) → Gives items (part next end))
     → ((next : DeclPlace) (end : Ending) → Gives others (rest next end)) → Gives (items ++ others) (part_then part rest)
-part_then_gives g h = record { gives = λ ts us r. (then_gives (g r.0 r.1) (h r.0 r.1)).gives ts us r.2 }
+part_then_gives g h = record { gives = λ ts us r. (then_gives (g r.0 r.1) (h r.0 r.1)).gives ts us r.2; leaves = λ ts us r. (then_gives (g r.0 r.1) (h r.0 r.1)).leaves ts us r.2 }
 
 -- the parts take their own items
 abbrev pub PartsGive : {T : Type 0} → (T → List Item) → Parts T → Type 0
@@ -66,9 +70,19 @@ implicit_items items_of parts each kind m place col pieces ts us (inl r) =
     sym (marked true ts) ∙ ap items_left (sym r.3) ∙ sym (ap (λ l. flat_map (piece_items items_of) l ++ items_left us) r.1)
 implicit_items items_of parts each kind m place col pieces ts us (inr r) = (pieces_give items_of parts each kind col place Ending.Nothing pieces).gives ts us r.1
 
+implicit_leaves : {T : Type 0} (items_of : T → List Item) (parts : Parts T) → PartsGive items_of parts
+    → (kind : BlockKind) (m : ℕ) (place : DeclPlace) (col : ℕ) (pieces : List (Piece T)) (ts us : List Placed) → implicit_reading parts kind m place col pieces ts us
+    → AreLeft us (drop (length (flat_map (piece_items items_of) pieces)) ts)
+implicit_leaves items_of parts each kind m place col pieces ts us (inl r) =
+    subst (λ l. AreLeft us (drop (length (flat_map (piece_items items_of) l)) ts)) (sym r.1) (inr (true, r.3))
+implicit_leaves items_of parts each kind m place col pieces ts us (inr r) = (pieces_give items_of parts each kind col place Ending.Nothing pieces).leaves ts us r.1
+
 implicit_gives : {T : Type 0} (items_of : T → List Item) (parts : Parts T) → PartsGive items_of parts
     → (kind : BlockKind) (m : ℕ) (place : DeclPlace) (col : ℕ) (pieces : List (Piece T)) → Gives (flat_map (piece_items items_of) pieces) (implicit_reading parts kind m place col pieces)
-implicit_gives items_of parts each kind m place col pieces = record { gives = implicit_items items_of parts each kind m place col pieces }
+implicit_gives items_of parts each kind m place col pieces = record {
+  gives = implicit_items items_of parts each kind m place col pieces;
+  leaves = implicit_leaves items_of parts each kind m place col pieces;
+}
 
 layout_gives : {T : Type 0} (items_of : T → List Item) (parts : Parts T) → PartsGive items_of parts
     → (kind : BlockKind) (m : ℕ) (place : DeclPlace) (layout : Layout) (pieces : List (Piece T))

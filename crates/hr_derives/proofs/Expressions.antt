@@ -23,8 +23,8 @@ use Rattle.hr_grammar.specs.Patterns.{HasTwo}
 use Rattle.hr_grammar.specs.Expressions.{takes_operand, takes_open, takes_infix, takes_annotation, last_operand, IsSequence}
 use Rattle.hr_derives.specs.Derivations.{Derivations}
 use Rattle.hr_derives.specs.Expressions.{applied, closed, annotated, exp_operands, qualifier_reading, qualifier_over, atom_reading, exp_reading, exp_over}
-use Rattle.hr_derives.specs.Laws.{items_left, Gives, AllGive}
-use Rattle.hr_derives.proofs.Readings.{append_assoc, append_nothing, same_gives, never_gives, then_gives, given_gives, one_gives, spelled_gives, in_turn_gives, separated_gives, maybe_one_gives, operator_there_gives, inside_gives}
+use Rattle.hr_derives.specs.Laws.{Gives, AllGive}
+use Rattle.hr_derives.proofs.Readings.{append_assoc, append_nothing, same_gives, never_gives, then_gives, given_gives, given_same, one_gives, spelled_gives, in_turn_gives, separated_gives, maybe_one_gives, operator_there_gives, inside_gives}
 
 -- the last operand, behind which no operator stands
 last_items : (o : Operand Exp) → o.operator ≡ None → maybe_item o.minus ++ exp_items o.part ≡ operand_items exp_items o ++ []
@@ -41,11 +41,8 @@ operand_then o rest =
 operands_give : (below : Derivations) → AllGive below → (n : ℕ) (free : Bool) (last : ExpPlace) (operands : List (Operand Exp)) (ending : Ending)
     → Gives (flat_map (operand_items exp_items) operands) (exp_operands below n free last operands ending)
 operands_give below each n free last [] ending = never_gives
-operands_give below each n free last (operand ∷ []) ending = record {
-  gives = λ ts us r.
-      (then_gives (maybe_one_gives n IsMinus operand.minus) (each.exp n free last operand.part ending)).gives ts us r.1
-      ∙ ap (λ l. l ++ items_left us) (last_items operand r.0);
-}
+operands_give below each n free last (operand ∷ []) ending =
+    given_same (operand.operator ≡ None) (last_items operand) (then_gives (maybe_one_gives n IsMinus operand.minus) (each.exp n free last operand.part ending))
 operands_give below each n free last (operand ∷ (next ∷ rest)) ending =
     same_gives (operand_then operand (flat_map (operand_items exp_items) (next ∷ rest)))
     (then_gives (maybe_one_gives n IsMinus operand.minus) (then_gives (inside_gives (each.exp n free ExpPlace.Operand operand.part))

@@ -22,8 +22,8 @@ use Rattle.hr_derives.specs.Readings.{Reading}
 use Rattle.hr_derives.specs.Derivations.{Derivations}
 use Rattle.hr_derives.specs.Patterns.{pat_operands, pat_reading}
 use Rattle.hr_derives.specs.Modules.{derivations}
-use Rattle.hr_derives.specs.Laws.{items_left, Gives, PatternsGive}
-use Rattle.hr_derives.proofs.Readings.{append_nothing, same_gives, never_gives, then_gives, given_gives, one_gives, spelled_gives, in_turn_gives, separated_gives, operand_gives, last_operand_gives, operator_there_gives}
+use Rattle.hr_derives.specs.Laws.{Gives, PatternsGive}
+use Rattle.hr_derives.proofs.Readings.{append_nothing, same_gives, never_gives, then_gives, given_gives, given_same, one_gives, spelled_gives, in_turn_gives, separated_gives, operand_gives, last_operand, operator_there_gives}
 
 no_minus : (items : List Item) (o : Operand Pat) → o.minus ≡ None → items ≡ maybe_item o.minus ++ items
 no_minus items o e = sym (ap (λ m. maybe_item m ++ items) e)
@@ -31,16 +31,13 @@ no_minus items o e = sym (ap (λ m. maybe_item m ++ items) e)
 operands_give : (below : Derivations) → ((n : ℕ) (place : PatPlace) (pat : Pat) → Gives (pat_items pat) (below.pat n place pat))
     → (n : ℕ) (operands : List (Operand Pat)) → Gives (flat_map (operand_items pat_items) operands) (pat_operands below n operands)
 operands_give below each n [] = never_gives
-operands_give below each n (operand ∷ []) = record {
-  gives = λ ts us r.
-      (each n PatPlace.Operand operand.part).gives ts us r.1
-      ∙ ap (λ l. l ++ items_left us) (last_operand_gives pat_items operand r.0.1 ∙ ap (λ l. l ++ []) (no_minus (pat_items operand.part ++ maybe_operator operand.operator) operand r.0.0));
-}
-operands_give below each n (operand ∷ (next ∷ rest)) = record {
-  gives = λ ts us r.
-      (operand_gives pat_items operand (each n PatPlace.Operand operand.part) (operator_there_gives n IsConstructorOperator operand.operator) (operands_give below each n (next ∷ rest))).gives ts us r.1
-      ∙ ap (λ l. (l ++ flat_map (operand_items pat_items) (next ∷ rest)) ++ items_left us) (no_minus (pat_items operand.part ++ maybe_operator operand.operator) operand r.0);
-}
+operands_give below each n (operand ∷ []) =
+    given_same ((operand.minus ≡ None) × (operand.operator ≡ None))
+    (λ e. last_operand pat_items operand e.1 ∙ ap (λ l. l ++ []) (no_minus (pat_items operand.part ++ maybe_operator operand.operator) operand e.0)) (each n PatPlace.Operand operand.part)
+operands_give below each n (operand ∷ (next ∷ rest)) =
+    given_same (operand.minus ≡ None)
+    (λ e. ap (λ l. l ++ flat_map (operand_items pat_items) (next ∷ rest)) (no_minus (pat_items operand.part ++ maybe_operator operand.operator) operand e))
+    (operand_gives pat_items operand (each n PatPlace.Operand operand.part) (operator_there_gives n IsConstructorOperator operand.operator) (operands_give below each n (next ∷ rest)))
 
 -- one level, where patterns on the level below take their own items
 pub pat_gives : (below : Derivations) → ((n : ℕ) (place : PatPlace) (pat : Pat) → Gives (pat_items pat) (below.pat n place pat))

@@ -1,8 +1,9 @@
 -- Laws of the relation.
-use Rattle.std.specs.Prelude.{ℕ, ◌≡◌, Bool, List, ◌++◌, map, Option}
+use Rattle.std.specs.Prelude.{ℕ, ◌≡◌, ◌⊎◌, Bool, List, ◌++◌, map, length, drop, Option}
 use Rattle.hr_base.specs.declared.lexeme.Ending.{Ending}
 use Rattle.hr_base.specs.declared.lexeme.Item.{Item}
 use Rattle.hr_rules.specs.declared.block.Placed.{Placed}
+use Rattle.hr_rules.specs.Blocks.{mark}
 use Rattle.hr_tree.specs.declared.types.Ty.{Ty}
 use Rattle.hr_tree.specs.declared.patterns.Pat.{Pat}
 use Rattle.hr_tree.specs.declared.modules.Import.{Import}
@@ -25,9 +26,15 @@ use Rattle.hr_derives.specs.Derivations.{Derivations}
 abbrev pub items_left : List Placed → List Item
 items_left ts = map (λ next. next.item) ts
 
--- a reading takes the items: they stand before those that are left behind it
+-- the lexemes are the others, but for whether the first of them counts as first on its line
+abbrev pub AreLeft : List Placed → List Placed → Type 0
+AreLeft us vs = (us ≡ vs) ⊎ ((first : Bool) × (us ≡ mark first vs))
+
+-- a reading takes the items: they stand before those that are left behind it, and the lexemes left are those behind
+-- them, with their places
 pub record Gives (items : List Item) (reading : Reading) : Type 0 where
   pub gives : (ts us : List Placed) → reading ts us → items_left ts ≡ items ++ items_left us
+  pub leaves : (ts us : List Placed) → reading ts us → AreLeft us (drop (length items) ts)
 
 abbrev pub TypesGive : Type 0
 TypesGive = (levels n : ℕ) (place : TyPlace) (ty : Ty) → Gives (ty_items ty) ((derivations levels).ty n place ty)
