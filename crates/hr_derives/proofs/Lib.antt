@@ -11,4 +11,6 @@ pub mod Imports
 pub mod Modules
 pub mod Patterns
 pub mod Readings
+pub mod Shrinks
+pub mod Stops
 pub mod Types

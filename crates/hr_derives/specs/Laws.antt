@@ -1,9 +1,12 @@
 -- Laws of the relation.
-use Rattle.std.specs.Prelude.{ℕ, ◌≡◌, ◌⊎◌, Bool, List, ◌++◌, map, length, drop, Option}
+use Rattle.std.specs.Prelude.{ℕ, ◌≡◌, ◌≢◌, ◌⊎◌, ◌<◌, Bool, true, List, ◌++◌, map, length, drop, Option}
 use Rattle.hr_base.specs.declared.lexeme.Ending.{Ending}
 use Rattle.hr_base.specs.declared.lexeme.Item.{Item}
 use Rattle.hr_rules.specs.declared.block.Placed.{Placed}
+use Rattle.hr_rules.specs.declared.block.BlockKind.{BlockKind}
 use Rattle.hr_rules.specs.Blocks.{mark}
+use Rattle.hr_rules.specs.BlockLaws.{stops}
+use Rattle.hr_tree.specs.declared.lists.Piece.{Piece}
 use Rattle.hr_tree.specs.declared.types.Ty.{Ty}
 use Rattle.hr_tree.specs.declared.patterns.Pat.{Pat}
 use Rattle.hr_tree.specs.declared.modules.Import.{Import}
@@ -18,8 +21,9 @@ use Rattle.hr_tree.specs.Yields.{ty_items, pat_items, exp_items, decl_items, alt
 use Rattle.hr_grammar.specs.Nodes.{Nodes, TyPlace, PatPlace, ExpPlace, DeclPlace}
 use Rattle.hr_grammar.specs.Yields.{nodes, nesting_limit, IsModule, Yields, DeepYields}
 use Rattle.hr_derives.specs.Readings.{Reading, maybe}
+use Rattle.hr_derives.specs.Blocks.{pieces_reading}
 use Rattle.hr_derives.specs.Imports.{import_reading, header_reading}
-use Rattle.hr_derives.specs.Modules.{derivations, Derives}
+use Rattle.hr_derives.specs.Modules.{decl_parts, alt_parts, derivations, Derives}
 use Rattle.hr_derives.specs.Derivations.{Derivations}
 
 -- the items of the lexemes that are left
@@ -82,3 +86,17 @@ pub record ModulesAre : Type 0 where
   pub grammar : (levels : ℕ) (tree : Module) (items : List Item) → Derives levels tree items → IsModule levels tree
   pub yields : (tree : Module) (items : List Item) → Derives nesting_limit tree items → Yields tree (record { list = items; tail = tree.tail })
   pub deep : (levels : ℕ) (tree : Module) (items : List Item) → Derives levels tree items → DeepYields tree (record { list = items; tail = tree.tail })
+
+-- what is read of types, patterns and expressions is a lexeme or more
+pub record ReadingsShrink : Type 0 where
+  pub types : (levels n : ℕ) (place : TyPlace) (ty : Ty) (ts us : List Placed) → (derivations levels).ty n place ty ts us → length us < length ts
+  pub patterns : (levels n : ℕ) (place : PatPlace) (pat : Pat) (ts us : List Placed) → (derivations levels).pat n place pat ts us → length us < length ts
+  pub expressions : (levels n : ℕ) (free : Bool) (place : ExpPlace) (exp : Exp) (ending : Ending) (ts us : List Placed)
+      → (derivations levels).exp n free place exp ending ts us → length us < length ts
+
+-- where the pieces of a block go on or end behind a part, nothing can go on in the part
+pub record PiecesStop : Type 0 where
+  pub declarations : (levels n : ℕ) (kind : BlockKind) (place : DeclPlace) (ending : Ending) (pieces : List (Piece Decl)) (ts us : List Placed)
+      → pieces_reading (decl_parts (derivations levels)) kind n place ending pieces ts us → ending ≢ Ending.Nothing → stops n ending ts ≡ true
+  pub alternatives : (levels n : ℕ) (kind : BlockKind) (place : DeclPlace) (ending : Ending) (pieces : List (Piece Alt)) (ts us : List Placed)
+      → pieces_reading (alt_parts (derivations levels)) kind n place ending pieces ts us → ending ≢ Ending.Nothing → stops n ending ts ≡ true

@@ -1,5 +1,5 @@
 //! Laws of the relation.
-ghost use Rattle.hr_derives.specs.Laws.{ImportsGive, LevelsAre, LevelsGive, ModulesAre, ModulesGive, PatternsGive, TypesGive};
+ghost use Rattle.hr_derives.specs.Laws.{ImportsGive, LevelsAre, LevelsGive, ModulesAre, ModulesGive, PatternsGive, PiecesStop, ReadingsShrink, TypesGive};
 
 /// A type that is read takes its own items.
 pub fn types_give()
@@ -34,4 +34,14 @@ pub fn levels_are()
 /// What is read as a module is yielded by a tree of the grammar.
 pub fn modules_are()
     ensures { ModulesAre }
+{}
+
+/// What is read of types, patterns and expressions is a lexeme or more.
+pub fn readings_shrink()
+    ensures { ReadingsShrink }
+{}
+
+/// Where the pieces of a block go on or end behind a part, nothing can go on in the part.
+pub fn pieces_stop()
+    ensures { PiecesStop }
 {}
