@@ -1,5 +1,6 @@
 pub mod Blocks
 pub mod Declarations
+pub mod Endings
 pub mod Expressions
 pub mod Grammatical
 pub mod GrammaticalBlocks

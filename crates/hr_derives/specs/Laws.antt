@@ -100,3 +100,12 @@ pub record PiecesStop : Type 0 where
       → pieces_reading (decl_parts (derivations levels)) kind n place ending pieces ts us → ending ≢ Ending.Nothing → stops n ending ts ≡ true
   pub alternatives : (levels n : ℕ) (kind : BlockKind) (place : DeclPlace) (ending : Ending) (pieces : List (Piece Alt)) (ts us : List Placed)
       → pieces_reading (alt_parts (derivations levels)) kind n place ending pieces ts us → ending ≢ Ending.Nothing → stops n ending ts ≡ true
+
+-- an expression, a declaration and an alternative don't end as an empty part does
+pub record EndingsAreSome (read : Derivations) : Type 0 where
+  pub exp : (n : ℕ) (free : Bool) (place : ExpPlace) (exp : Exp) (ending : Ending) (ts us : List Placed) → read.exp n free place exp ending ts us → ending ≢ Ending.Nothing
+  pub decl : (n : ℕ) (place : DeclPlace) (decl : Decl) (ending : Ending) (ts us : List Placed) → read.decl n place decl ending ts us → ending ≢ Ending.Nothing
+  pub alt : (n : ℕ) (alt : Alt) (ending : Ending) (ts us : List Placed) → read.alt n alt ending ts us → ending ≢ Ending.Nothing
+
+abbrev pub PartsEnd : Type 0
+PartsEnd = (levels : ℕ) → EndingsAreSome (derivations levels)

@@ -1,5 +1,5 @@
 //! Laws of the relation.
-ghost use Rattle.hr_derives.specs.Laws.{ImportsGive, LevelsAre, LevelsGive, ModulesAre, ModulesGive, PatternsGive, PiecesStop, ReadingsShrink, TypesGive};
+ghost use Rattle.hr_derives.specs.Laws.{ImportsGive, LevelsAre, LevelsGive, ModulesAre, ModulesGive, PartsEnd, PatternsGive, PiecesStop, ReadingsShrink, TypesGive};
 
 /// A type that is read takes its own items.
 pub fn types_give()
@@ -44,4 +44,9 @@ pub fn readings_shrink()
 /// Where the pieces of a block go on or end behind a part, nothing can go on in the part.
 pub fn pieces_stop()
     ensures { PiecesStop }
+{}
+
+/// No expression, declaration or alternative ends as an empty part does.
+pub fn parts_end()
+    ensures { PartsEnd }
 {}
