@@ -15,3 +15,4 @@ pub mod Readings
 pub mod Shrinks
 pub mod Stops
 pub mod Types
+pub mod Worked

@@ -8,3 +8,4 @@ pub mod Modules
 pub mod Patterns
 pub mod Readings
 pub mod Types
+pub mod Worked

@@ -1,5 +1,6 @@
 //! Laws of the relation.
 ghost use Rattle.hr_derives.specs.Laws.{ImportsGive, LevelsAre, LevelsGive, ModulesAre, ModulesGive, PartsEnd, PatternsGive, PiecesStop, ReadingsShrink, TypesGive};
+ghost use Rattle.hr_derives.specs.Worked.{WorkedTexts};
 
 /// A type that is read takes its own items.
 pub fn types_give()
@@ -49,4 +50,9 @@ pub fn pieces_stop()
 /// No expression, declaration or alternative ends as an empty part does.
 pub fn parts_end()
     ensures { PartsEnd }
+{}
+
+/// The items of a worked text are read as its tree: an annotated expression in a block that `in` ends.
+pub fn worked_texts()
+    ensures { WorkedTexts }
 {}
