@@ -1,16 +1,12 @@
 -- Declarations and alternatives that are read are those of the grammar.
-use Rattle.std.proofs.Common.{◌≡◌, ◌≢◌, ℕ, Bool, true, false, List, [], ◌∷◌, length, Option, Some, None}
+use Rattle.std.proofs.Common.{◌≢◌, ℕ, true, false, List, [], ◌∷◌, Option, Some, None}
 use Rattle.std.specs.List.{AllByRecursion}
 use Rattle.hr_base.specs.declared.lexeme.Class.{Class}
 use Rattle.hr_base.specs.declared.lexeme.Ending.{Ending}
 use Rattle.hr_base.specs.declared.lexeme.Item.{Item}
 use Rattle.hr_rules.specs.declared.block.Placed.{Placed}
-use Rattle.hr_tree.specs.declared.patterns.Pat.{Pat}
-use Rattle.hr_tree.specs.declared.declarations.TypeHead.{TypeHead}
 use Rattle.hr_tree.specs.declared.declarations.Construction.{Construction}
-use Rattle.hr_tree.specs.declared.declarations.LeftSide.{LeftSide}
 use Rattle.hr_tree.specs.declared.declarations.LeftHead.{LeftHead}
-use Rattle.hr_tree.specs.declared.declarations.Closed.{Closed}
 use Rattle.hr_tree.specs.declared.declarations.Body.{Body}
 use Rattle.hr_tree.specs.declared.declarations.Guarded.{Guarded}
 use Rattle.hr_tree.specs.declared.declarations.Where.{Where}

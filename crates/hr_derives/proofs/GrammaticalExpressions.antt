@@ -1,8 +1,6 @@
 -- Expressions that are read are those of the grammar.
-use Rattle.std.proofs.Common.{◌≡◌, ◌≢◌, ℕ, Bool, true, false, List, [], ◌∷◌, length, Option, Some, None}
-use lib.Chars.{codes}
+use Rattle.std.proofs.Common.{ℕ, Bool, true, List, [], ◌∷◌}
 use Rattle.hr_base.specs.declared.lexeme.Ending.{Ending}
-use Rattle.hr_base.specs.declared.lexeme.Item.{Item}
 use Rattle.hr_rules.specs.declared.block.Placed.{Placed}
 use Rattle.hr_tree.specs.declared.lists.Operand.{Operand}
 use Rattle.hr_tree.specs.declared.expressions.Exp.{Exp}

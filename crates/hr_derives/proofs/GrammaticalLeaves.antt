@@ -1,8 +1,6 @@
 -- Types, patterns and imports that are read are those of the grammar.
-use Rattle.std.proofs.Common.{◌≡◌, ◌≢◌, ℕ, true, List, [], ◌∷◌, length, Option, Some, None}
+use Rattle.std.proofs.Common.{ℕ, List, [], ◌∷◌, Option, Some, None}
 use lib.Chars.{codes}
-use Rattle.hr_base.specs.declared.lexeme.Class.{Class}
-use Rattle.hr_base.specs.declared.lexeme.Item.{Item}
 use Rattle.hr_rules.specs.declared.block.Placed.{Placed}
 use Rattle.hr_tree.specs.declared.lists.Operand.{Operand}
 use Rattle.hr_tree.specs.declared.types.Ty.{Ty}
@@ -12,14 +10,13 @@ use Rattle.hr_tree.specs.declared.patterns.Pat.TheOpen.{Pat-F}
 use Rattle.hr_tree.specs.declared.modules.NameList.{NameList}
 use Rattle.hr_tree.specs.declared.modules.Export.{Export}
 use Rattle.hr_tree.specs.declared.modules.Members.{Members}
-use Rattle.hr_tree.specs.declared.modules.Import.{Import}
 use Rattle.hr_tree.specs.declared.modules.Alias.{Alias}
 use Rattle.hr_tree.specs.declared.modules.ImportNames.{ImportNames}
 use Rattle.hr_tree.specs.declared.modules.Imported.{Imported}
 use Rattle.hr_tree.specs.declared.modules.Header.{Header}
-use Rattle.hr_tree.specs.Names.{variable_items, constructor_items, operator_items}
-use Rattle.hr_grammar.specs.Words.{IsOf, IsWord, IsImportWord, IsComma, IsLeftParen, IsRightParen}
-use Rattle.hr_grammar.specs.Spelled.{Maybe, IsOwnConstructor, IsConstructorOperator}
+use Rattle.hr_tree.specs.Names.{constructor_items}
+use Rattle.hr_grammar.specs.Words.{IsImportWord, IsComma}
+use Rattle.hr_grammar.specs.Spelled.{IsOwnConstructor, IsConstructorOperator}
 use Rattle.hr_grammar.specs.Nodes.{Nodes, TyPlace, PatPlace}
 use Rattle.hr_grammar.specs.Types.{TyProduction}
 use Rattle.hr_grammar.specs.Patterns.{ArePatOperands, PatProduction}
@@ -31,7 +28,7 @@ use Rattle.hr_derives.specs.Types.{ty_reading}
 use Rattle.hr_derives.specs.Patterns.{pat_operands, pat_reading}
 use Rattle.hr_derives.specs.Imports.{members_reading, name_list_reading, export_reading, imported_reading, alias_reading, import_names_reading, import_reading, header_reading}
 use Rattle.hr_derives.specs.Laws.{AllAre}
-use Rattle.hr_derives.proofs.Grammatical.{Are, one_are, spelled_are, maybe_is, operator_is, in_turn_are, separated_are}
+use Rattle.hr_derives.proofs.Grammatical.{Are, spelled_are, maybe_is, operator_is, in_turn_are, separated_are}
 
 pub ty_is : (read : Derivations) (allowed : Nodes) → AllAre read allowed → (n : ℕ) (place : TyPlace) (layer : Ty-F Ty) (ts us : List Placed)
     → ty_reading read n place layer ts us → TyProduction allowed place layer

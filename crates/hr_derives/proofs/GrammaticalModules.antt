@@ -12,7 +12,7 @@ use Rattle.hr_tree.specs.Yields.{module_items}
 use Rattle.hr_grammar.specs.Nodes.{DeclPlace}
 use Rattle.hr_grammar.specs.Yields.{nodes, nesting_limit, IsModule}
 use Rattle.hr_derives.specs.Modules.{derivations, Derives}
-use Rattle.hr_derives.specs.Laws.{AllAre, LevelsAre, ModulesAre}
+use Rattle.hr_derives.specs.Laws.{LevelsAre, ModulesAre}
 use Rattle.hr_derives.proofs.Modules.{modules_give_lem}
 use Rattle.hr_derives.proofs.GrammaticalLeaves.{ty_is, pat_is, header_is}
 use Rattle.hr_derives.proofs.GrammaticalExpressions.{exp_is}

@@ -1,22 +1,17 @@
 -- A module that is read takes its own items, and so does each tree in it.
-use Rattle.std.proofs.Common.{◌≡◌, ℕ, zero, suc, Bool, true, List, [], ◌∷◌, ◌++◌, sym, ◌∙◌}
-use Rattle.hr_base.specs.declared.lexeme.Ending.{Ending}
-use Rattle.hr_base.specs.declared.lexeme.Item.{Item}
+use Rattle.std.proofs.Common.{◌≡◌, ℕ, zero, suc, true, [], sym, ◌∙◌}
 use Rattle.hr_rules.specs.declared.block.BlockKind.{BlockKind}
 use Rattle.hr_rules.specs.Blocks.{placed_of}
 use Rattle.hr_rules.proofs.Margins.{items-placed}
 use Rattle.hr_tree.specs.declared.lists.Block.{Block}
 use Rattle.hr_tree.specs.declared.expressions.Decl.{Decl}
-use Rattle.hr_tree.specs.declared.expressions.Alt.{Alt}
-use Rattle.hr_tree.specs.declared.patterns.Pat.{Pat, out-Pat}
-use Rattle.hr_tree.specs.declared.patterns.Pat.TheViews.{roll-out-Pat}
 use Rattle.hr_tree.specs.declared.modules.Module.{Module}
 use Rattle.hr_tree.specs.Lists.{block_items}
 use Rattle.hr_tree.specs.Yields.{decl_items, alt_items, module_items}
 use Rattle.hr_grammar.specs.Nodes.{DeclPlace}
-use Rattle.hr_derives.specs.Derivations.{Derivations, no_derivations}
+use Rattle.hr_derives.specs.Derivations.{Derivations}
 use Rattle.hr_derives.specs.Modules.{comes_behind, decl_parts, alt_parts, declarations_over, derivations, module_reading}
-use Rattle.hr_derives.specs.Laws.{items_left, Gives, AllGive, LevelsGive, ModulesGive}
+use Rattle.hr_derives.specs.Laws.{Gives, AllGive, LevelsGive, ModulesGive}
 use Rattle.hr_derives.proofs.Readings.{append_nothing, never_gives, then_gives, given_gives}
 use Rattle.hr_derives.proofs.Types.{types_give_lem}
 use Rattle.hr_derives.proofs.Patterns.{patterns_give_lem}

@@ -1,16 +1,14 @@
 -- A pattern that is read takes its own items.
-use Rattle.std.proofs.Common.{◌≡◌, ◌≢◌, ℕ, zero, suc, true, List, [], ◌∷◌, ◌++◌, length, Option, None, refl, sym, ap, ◌∙◌, subst}
+use Rattle.std.proofs.Common.{◌≡◌, ◌≢◌, ℕ, zero, suc, true, List, [], ◌∷◌, ◌++◌, length, None, sym, ap, ◌∙◌}
 use Rattle.std.specs.List.{flat_map}
 use lib.Chars.{codes}
 use Rattle.hr_base.specs.declared.lexeme.Item.{Item}
-use Rattle.hr_rules.specs.declared.block.Placed.{Placed}
 use Rattle.hr_tree.specs.declared.lists.Operand.{Operand}
-use Rattle.hr_tree.specs.declared.names.Operator.{Operator}
 use Rattle.hr_tree.specs.declared.patterns.Pat.{Pat, out-Pat, roll-Pat}
 use Rattle.hr_tree.specs.declared.patterns.Pat.TheOpen.{Pat-F}
 use Rattle.hr_tree.specs.declared.patterns.Pat.TheFolds.{fold-roll-Pat}
 use Rattle.hr_tree.specs.declared.patterns.Pat.TheViews.{roll-out-Pat, rolls-Apply, rolls-Infix, rolls-Tuple, rolls-List}
-use Rattle.hr_tree.specs.Names.{maybe_item, maybe_operator, variable_items, constructor_items, operator_items}
+use Rattle.hr_tree.specs.Names.{maybe_item, maybe_operator, variable_items, constructor_items}
 use Rattle.hr_tree.specs.Lists.{operand_items}
 use Rattle.hr_tree.specs.Yields.{pat_layer, pat_items}
 use Rattle.hr_tree.proofs.PatternYields.{pat_apply, pat_infix, pat_tuple, pat_list}
@@ -18,12 +16,11 @@ use Rattle.hr_grammar.specs.Words.{IsWord, IsReserved, IsLiteral, IsMinus, IsInt
 use Rattle.hr_grammar.specs.Spelled.{IsVariable, IsConstructor, IsConstructorOperator, AreParts}
 use Rattle.hr_grammar.specs.Nodes.{PatPlace}
 use Rattle.hr_grammar.specs.Patterns.{takes_operand, takes_infix, HasTwo}
-use Rattle.hr_derives.specs.Readings.{Reading}
 use Rattle.hr_derives.specs.Derivations.{Derivations}
 use Rattle.hr_derives.specs.Patterns.{pat_operands, pat_reading}
 use Rattle.hr_derives.specs.Modules.{derivations}
 use Rattle.hr_derives.specs.Laws.{Gives, PatternsGive}
-use Rattle.hr_derives.proofs.Readings.{append_nothing, same_gives, never_gives, then_gives, given_gives, given_same, one_gives, spelled_gives, in_turn_gives, separated_gives, operand_gives, last_operand, operator_there_gives}
+use Rattle.hr_derives.proofs.Readings.{same_gives, never_gives, then_gives, given_gives, given_same, one_gives, spelled_gives, in_turn_gives, separated_gives, operand_gives, last_operand, operator_there_gives}
 
 no_minus : (items : List Item) (o : Operand Pat) → o.minus ≡ None → items ≡ maybe_item o.minus ++ items
 no_minus items o e = sym (ap (λ m. maybe_item m ++ items) e)

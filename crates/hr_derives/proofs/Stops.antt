@@ -1,7 +1,5 @@
 -- Where the pieces of a block go on or end behind a part, nothing can go on in the part.
-use Rattle.std.proofs.Common.{◌≡◌, ◌≢◌, ℕ, not, ◌||◌, ◌&&◌, Bool, true, false, List, [], ◌∷◌, refl, sym, ap, ap₂, ◌∙◌, subst, true≢false}
-use lib.Chars.{codes}
-use Rattle.hr_base.specs.declared.lexeme.Class.{Class}
+use Rattle.std.proofs.Common.{◌≡◌, ◌≢◌, ℕ, not, ◌||◌, ◌&&◌, Bool, true, false, List, [], ◌∷◌, refl, ap, ap₂, ◌∙◌}
 use Rattle.hr_base.specs.declared.lexeme.Ending.{Ending}
 use Rattle.hr_base.specs.declared.lexeme.Item.{Item}
 use Rattle.hr_rules.specs.declared.role.Role.{Role}

@@ -4,7 +4,6 @@ use Rattle.hr_base.specs.declared.lexeme.Ending.{Ending}
 use Rattle.hr_base.specs.declared.lexeme.Item.{Item}
 use Rattle.hr_rules.specs.declared.block.BlockKind.{BlockKind}
 use Rattle.hr_rules.specs.declared.block.Opened.{Opened}
-use Rattle.hr_rules.specs.declared.block.Placed.{Placed}
 use Rattle.hr_rules.specs.Blocks.{mark, left_of, opens, starts_part, ends_block}
 use Rattle.hr_tree.specs.declared.lists.Block.{Block}
 use Rattle.hr_tree.specs.declared.lists.Layout.{Layout}
@@ -12,7 +11,7 @@ use Rattle.hr_tree.specs.declared.lists.Piece.{Piece}
 use Rattle.hr_grammar.specs.Words.{IsLeftBrace, IsRightBrace, IsSemicolon}
 use Rattle.hr_grammar.specs.Nodes.{DeclPlace}
 use Rattle.hr_grammar.specs.Offside.{column_of}
-use Rattle.hr_derives.specs.Readings.{Reading, nothing, ◌▷◌, given, takes, one}
+use Rattle.hr_derives.specs.Readings.{Reading, nothing, ◌▷◌, given, one}
 
 -- how the parts of a kind of block are read in the block at a column: what place the parts before one have, what
 -- place it has itself, the part, and its ending

@@ -1,5 +1,5 @@
 -- How export lists and imports are read: the Haskell 98 Report, sections 5.2 and 5.3.
-use Rattle.std.specs.Prelude.{ℕ, Option, Some, None}
+use Rattle.std.specs.Prelude.{ℕ}
 use lib.Chars.{codes}
 use Rattle.hr_base.specs.declared.lexeme.Class.{Class}
 use Rattle.hr_tree.specs.declared.modules.NameList.{NameList}

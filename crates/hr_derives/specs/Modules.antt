@@ -1,6 +1,5 @@
 -- The relation by cases, grammar and layout together, for the whole grammar: the levels, and modules.
-use Rattle.std.specs.Prelude.{ℕ, zero, suc, ◌≡◌, Bool, true, false, List, [], Option, Some, None}
-use Rattle.hr_base.specs.declared.lexeme.Ending.{Ending}
+use Rattle.std.specs.Prelude.{ℕ, zero, suc, ◌≡◌, Bool, true, false, List, []}
 use Rattle.hr_base.specs.declared.lexeme.Item.{Item}
 use Rattle.hr_rules.specs.declared.block.BlockKind.{BlockKind}
 use Rattle.hr_rules.specs.Blocks.{placed_of}
