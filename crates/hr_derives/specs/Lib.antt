@@ -1,0 +1,11 @@
+pub mod Blocks
+pub mod Declarations
+pub mod Derivations
+pub mod Expressions
+pub mod Imports
+pub mod Laws
+pub mod Modules
+pub mod Patterns
+pub mod Readings
+pub mod Types
+pub mod Worked

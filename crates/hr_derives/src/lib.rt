@@ -1,0 +1,9 @@
+//! The relation by cases, grammar and layout together, that the parser's proof goes by. Nothing here runs.
+#![tactic(auto)]
+
+mod laws;
+
+pub use laws::{
+    imports_give, levels_are, levels_give, modules_are, modules_give, parts_end, patterns_give,
+    pieces_stop, readings_shrink, types_give, worked_texts,
+};
