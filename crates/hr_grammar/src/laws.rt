@@ -82,9 +82,10 @@ pub fn left_out_stands_nowhere()
     ensures { LeftOutStandsNowhere }
 {}
 
-/// The trees of nine worked texts are trees of the grammar, stand as the layout rule says, and are the
-/// trees of these texts; each block ends before the lexeme that is named. A `,`, a `|`, `..`, `then`,
-/// `of`, `in` or an operator ends a block, `in` two of them, and a lambda stands in a section.
+/// The trees of nine worked texts are trees of the grammar, stand as the layout rule says, and their
+/// lexemes with what stands before them, joined, are the texts; each block ends before the lexeme that is
+/// named. A `,`, a `|`, `..`, `then`, `of`, `in` or an operator ends a block, `in` two of them, and a lambda
+/// stands in a section.
 pub fn worked_trees()
     ensures { WorkedTrees }
 {}
