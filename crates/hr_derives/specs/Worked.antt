@@ -4,7 +4,9 @@ use lib.Chars.{codes}
 use Rattle.hr_base.specs.declared.lexeme.Class.{Class}
 use Rattle.hr_base.specs.declared.lexeme.Item.{Item}
 use Rattle.hr_grammar.specs.Yields.{nesting_limit}
-use Rattle.hr_grammar.specs.Worked.{annotated_in_let, section_of_lambda, case_in_if, sum_behind_case}
+use Rattle.hr_tree.specs.declared.expressions.Exp.{Exp}
+use Rattle.hr_tree.specs.declared.modules.Module.{Module}
+use Rattle.hr_grammar.specs.Worked.{defines, annotated_in_let, section_of_lambda, case_in_if, sum_behind_case}
 use Rattle.hr_derives.specs.Modules.{Derives}
 
 -- an item, by what stands before it
@@ -27,10 +29,14 @@ case_in_if_items = item Class.VarId [] (codes "a") ∷ (item Class.ReservedOp (c
 abbrev pub sum_behind_case_items : List Item
 sum_behind_case_items = item Class.VarId [] (codes "a") ∷ (item Class.ReservedOp (codes " ") (codes "=") ∷ (item Class.Special (codes " ") (codes "(") ∷ (item Class.ReservedId [] (codes "case") ∷ (item Class.VarId (codes " ") (codes "a") ∷ (item Class.ReservedId (codes " ") (codes "of") ∷ (item Class.ConId (codes " ") (codes "A") ∷ (item Class.ReservedOp (codes " ") (codes "->") ∷ (item Class.Integer (codes " ") (codes "1") ∷ (item Class.ReservedOp (codes " ") (codes "::") ∷ (item Class.ConId (codes " ") (codes "T") ∷ (item Class.VarSym (codes " ") (codes "+") ∷ (item Class.Integer (codes " ") (codes "2") ∷ (item Class.Special [] (codes ")") ∷ [])))))))))))))
 
+-- the module that binds `a`
+abbrev pub defines_a : Exp → Module
+defines_a body = defines (codes "a") body
+
 -- they are read as their trees
 abbrev pub WorkedTexts : Type 0
 WorkedTexts =
-    Derives nesting_limit annotated_in_let annotated_in_let_items
-    × Derives nesting_limit section_of_lambda section_of_lambda_items
-    × Derives nesting_limit case_in_if case_in_if_items
-    × Derives nesting_limit sum_behind_case sum_behind_case_items
+    Derives nesting_limit (defines_a annotated_in_let) annotated_in_let_items
+    × Derives nesting_limit (defines_a section_of_lambda) section_of_lambda_items
+    × Derives nesting_limit (defines_a case_in_if) case_in_if_items
+    × Derives nesting_limit (defines_a sum_behind_case) sum_behind_case_items
