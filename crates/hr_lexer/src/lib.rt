@@ -16,6 +16,3 @@ mod taken;
 pub use apart::{are_apart, is_varid};
 pub use error::LexError;
 pub use lexing::lex;
-
-#[cfg(test)]
-mod tests;

@@ -6,8 +6,8 @@ mod names;
 mod numbers;
 mod refusals;
 
-use crate::{LexError, lex};
 use hr_base::Items;
+use hr_lexer::{LexError, lex};
 use std::alloc::{AllocError, Global};
 use std::process::Abort;
 

@@ -1,5 +1,5 @@
 use super::shown;
-use crate::lex;
+use hr_lexer::lex;
 use std::alloc::{AllocError, Global};
 use std::process::Abort;
 use std::test::Fail;

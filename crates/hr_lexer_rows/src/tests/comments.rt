@@ -1,5 +1,5 @@
 use super::{check, check_alike, check_whole};
-use crate::lex;
+use hr_lexer::lex;
 use std::test::Fail;
 
 #[test]
