@@ -1,5 +1,6 @@
 pub mod Colons
 pub mod Firsts
+pub mod Joins
 pub mod Laid
 pub mod LeftOut
 pub mod LeftOutWhole

@@ -3,6 +3,7 @@ pub mod Declarations
 pub mod Expressions
 pub mod Firsts
 pub mod Imports
+pub mod Joins
 pub mod Laws
 pub mod LeftOut
 pub mod Nodes

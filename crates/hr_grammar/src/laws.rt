@@ -1,5 +1,6 @@
 //! Laws of the definitions, which the proof of the parser goes by.
 ghost use Rattle.hr_grammar.specs.Firsts.{AlternativesBegin, DeclarationsBegin, ExpressionsBegin, PatternsBegin, TypesBegin};
+ghost use Rattle.hr_grammar.specs.Joins.{PartsStand, YieldsJoin};
 ghost use Rattle.hr_grammar.specs.LeftOut.{LeftOutStandsNowhere, TypesAndPatternsKept};
 ghost use Rattle.hr_grammar.specs.Laws.{LambdaIsNoLeftOperand, NoAnnotatedGuard, OneAnnotation, OneYield, OpenIsLast, OpenIsUnannotated, ReadIsJoined, WithinIsDeep};
 ghost use Rattle.hr_grammar.specs.SameTrees.{SameIsEquality};
@@ -109,4 +110,15 @@ pub fn twice_annotated_has_no_tree()
 /// No tree yields the lexemes of `f = class`.
 pub fn class_has_no_tree()
     ensures { ClassHasNoTree }
+{}
+
+/// What a tree yields is what its parts yield, one part behind the other.
+pub fn yields_join()
+    ensures { YieldsJoin }
+{}
+
+/// The blocks of a tree stand as the layout rule says where those of its parts do: of one stretch behind
+/// another, and of a block with its pieces.
+pub fn parts_stand()
+    ensures { PartsStand }
 {}
