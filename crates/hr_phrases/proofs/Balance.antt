@@ -5,9 +5,10 @@ use lib.Chars.{codes}
 use Rattle.hr_base.specs.declared.lexeme.Class.{Class}
 use Rattle.hr_base.specs.declared.lexeme.Item.{Item}
 use Rattle.hr_rules.specs.Names.{is_one_of, is_spelled}
-use Rattle.hr_grammar.specs.Words.{IsText, IsWord, IsLeftParen, IsRightParen, IsLeftSquare, IsRightSquare, IsLeftBrace, IsRightBrace, IsBackArrow}
-use Rattle.hr_phrases.specs.Phrases.{brackets, is_paired, Joins, InTrees, Everywhere}
+use Rattle.hr_grammar.specs.Words.{IsText, IsWord, IsLeftParen, IsRightParen, IsLeftSquare, IsRightSquare, IsLeftBrace, IsRightBrace}
+use Rattle.hr_phrases.specs.Phrases.{Everywhere}
 use Rattle.hr_phrases.specs.Balance.{fewer, open_behind, passed_bracket, open_after, Balances, ParenthesesBalance, SquareBracketsBalance, BracesBalance}
+use Rattle.hr_phrases.proofs.Rules.{brackets, is_paired, Joins, InTrees}
 use Rattle.hr_phrases.proofs.Lists.{put}
 use Rattle.hr_phrases.proofs.Tables.{none_of}
 use Rattle.hr_phrases.proofs.Modules.{trees_keep_lem}
@@ -49,21 +50,8 @@ record Pair (left right : List ℕ) : Type 0 where
   braces : (first last : Item) (xs : List Item) → IsLeftBrace first → IsRightBrace last → Keeps left right xs → Keeps left right (first ∷ (xs ++ last ∷ []))
 
 plain_stays : (left right : List ℕ) → Pair left right → (class : Class) (text : List ℕ) → is_paired class text ≡ false → (n : ℕ) → open_behind left right n class text ≡ Some n
-plain_stays left right pair Class.VarId text e n = refl
-plain_stays left right pair Class.ConId text e n = refl
-plain_stays left right pair Class.QVarId text e n = refl
-plain_stays left right pair Class.QConId text e n = refl
-plain_stays left right pair Class.VarSym text e n = refl
-plain_stays left right pair Class.ConSym text e n = refl
-plain_stays left right pair Class.QVarSym text e n = refl
-plain_stays left right pair Class.QConSym text e n = refl
-plain_stays left right pair Class.Integer text e n = refl
-plain_stays left right pair Class.Float text e n = refl
-plain_stays left right pair Class.Char text e n = refl
-plain_stays left right pair Class.Str text e n = refl
-plain_stays left right pair Class.ReservedId text e n = refl
-plain_stays left right pair Class.ReservedOp text e n = refl
 plain_stays left right pair Class.Special text e n = apart left right text (pair.plain text e).0 (pair.plain text e).1 n
+plain_stays left right pair _ text e n = refl
 
 reserved_word : (left right text : List ℕ) (item : Item) → IsWord text item → Keeps left right (item ∷ [])
 reserved_word left right text item is n = at_text left right Class.ReservedId text item is n

@@ -7,11 +7,9 @@ use lib.Chars.{codes}
 use Rattle.hr_base.specs.declared.lexeme.Class.{Class}
 use Rattle.hr_base.specs.declared.lexeme.Item.{Item}
 use Rattle.hr_rules.specs.Names.{is_one_of}
-use Rattle.hr_tree.specs.declared.lists.Listed.{Listed}
 use Rattle.hr_tree.specs.declared.lists.Layout.{Layout}
 use Rattle.hr_tree.specs.declared.lists.Piece.{Piece}
 use Rattle.hr_tree.specs.declared.lists.Block.{Block}
-use Rattle.hr_tree.specs.declared.patterns.Pat.{Pat}
 use Rattle.hr_tree.specs.declared.declarations.TypeHead.{TypeHead}
 use Rattle.hr_tree.specs.declared.declarations.Construction.{Construction}
 use Rattle.hr_tree.specs.declared.declarations.LeftSide.{LeftSide}
@@ -29,16 +27,15 @@ use Rattle.hr_tree.specs.declared.expressions.Decl.TheFolds.{fold-roll-Decl}
 use Rattle.hr_tree.specs.declared.expressions.Decl.TheViews.{roll-out-Exp, roll-out-Decl, rolls-Equation, rolls-Binding}
 use Rattle.hr_tree.specs.Names.{constructor_items, variable_items, operator_items, maybe_item}
 use Rattle.hr_tree.specs.Lists.{listed_items, piece_items, block_items, guarded_items, body_items, where_items}
-use Rattle.hr_tree.specs.Yields.{ty_items, pat_items, type_head_items, construction_items, left_head_items, closed_items, left_side_items, import_items, exp_layer, decl_layer, qualifier_layer, alt_layer, exp_items, decl_items, alt_items}
+use Rattle.hr_tree.specs.Yields.{ty_items, pat_items, type_head_items, construction_items, left_head_items, closed_items, left_side_items, exp_layer, decl_layer, qualifier_layer, alt_layer, exp_items, decl_items, alt_items}
 use Rattle.hr_tree.proofs.ExpressionYields.{decl_equation, decl_binding, alt_whole}
 use Rattle.hr_grammar.specs.Words.{IsOf, IsComma, IsBar, IsEquals, IsArrow, IsLeftParen}
 use Rattle.hr_grammar.specs.Spelled.{IsVariable, IsOwnOperator}
 use Rattle.hr_grammar.specs.Nodes.{TyPlace, PatPlace, ExpPlace, DeclPlace}
-use Rattle.hr_grammar.specs.Separated.{AreSeparated}
 use Rattle.hr_grammar.specs.Declarations.{DeclProduction, IsConstructionOver, IsNewConstructionOver, IsLeftHeadOver, IsClosedOver, IsLeftSideOver, IsGuardedOver, IsBodyOver, IsWhereOver, IsTypeHead, IsDigit, fixity_words}
 use Rattle.hr_grammar.specs.Blocks.{IsPiece, AreBraced}
-use Rattle.hr_grammar.specs.Yields.{nodes, AreDeclarationsOver, AreAlternativesOver}
-use Rattle.hr_phrases.specs.Phrases.{is_paired, Joins, InPatterns, InTrees}
+use Rattle.hr_grammar.specs.Yields.{nodes, AreDeclarationsOver}
+use Rattle.hr_phrases.proofs.Rules.{is_paired, Joins, InPatterns, InTrees}
 use Rattle.hr_phrases.proofs.Lists.{put, maybe, all_items, all_of, separated}
 use Rattle.hr_phrases.proofs.Tables.{one_of}
 use Rattle.hr_phrases.proofs.Names.{patterns_of, of_class, of_text, of_word, comma, own_constructor, own_operator, variable}

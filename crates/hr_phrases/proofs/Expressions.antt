@@ -23,9 +23,9 @@ use Rattle.hr_grammar.specs.Words.{IsMinus, IsComma, IsDots}
 use Rattle.hr_grammar.specs.Nodes.{TyPlace, PatPlace, ExpPlace, DeclPlace}
 use Rattle.hr_grammar.specs.Expressions.{ExpProduction, QualifierProduction, IsQualifierOver, AreExpOperands, last_operand}
 use Rattle.hr_grammar.specs.Yields.{nodes}
-use Rattle.hr_phrases.specs.Phrases.{is_paired, Joins, InPatterns, InTrees}
+use Rattle.hr_phrases.proofs.Rules.{is_paired, Joins, InTrees}
 use Rattle.hr_phrases.proofs.Lists.{put, maybe, no_operator, all_of, separated}
-use Rattle.hr_phrases.proofs.Names.{patterns_of, of_text, of_word, comma, minus, literal, constructor, named_variable, any_operator}
+use Rattle.hr_phrases.proofs.Names.{patterns_of, of_word, comma, minus, literal, constructor, named_variable, any_operator}
 use Rattle.hr_phrases.proofs.TypesAndPatterns.{types_keep, patterns_keep}
 
 -- the property is true of all that stands on a level

@@ -1,5 +1,5 @@
 -- What goes over from the parts of trees to the whole is true of imports and lists of exports.
-use Rattle.std.proofs.Common.{◌≡◌, List, [], ◌∷◌, ◌++◌, Option, Some, None, refl, subst}
+use Rattle.std.proofs.Common.{List, [], ◌∷◌, ◌++◌, Option, Some, None, refl, subst}
 use Rattle.std.specs.List.{flat_map}
 use Rattle.std.proofs.lemmas.List.{append_assoc}
 use lib.Chars.{codes}
@@ -20,7 +20,7 @@ use Rattle.hr_grammar.specs.Words.{IsComma, IsImportWord}
 use Rattle.hr_grammar.specs.Spelled.{IsOwnConstructor}
 use Rattle.hr_grammar.specs.Imports.{AreMembers, IsNameList, IsExport, AreExports, IsImported, IsAlias, AreImportNames, IsImport}
 use Rattle.hr_grammar.specs.Yields.{IsHeader}
-use Rattle.hr_phrases.specs.Phrases.{Joins, InPatterns, InTrees}
+use Rattle.hr_phrases.proofs.Rules.{InPatterns, InTrees}
 use Rattle.hr_phrases.proofs.Lists.{put, maybe, separated}
 use Rattle.hr_phrases.proofs.Names.{patterns_of, of_class, of_text, comma, large_name, own_constructor, variable, named_variable}
 

@@ -6,6 +6,7 @@ pub mod Lists
 pub mod Modules
 pub mod Names
 pub mod Partners
+pub mod Rules
 pub mod Tables
 pub mod Texts
 pub mod TypesAndPatterns

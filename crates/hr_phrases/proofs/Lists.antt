@@ -1,5 +1,5 @@
 -- Lists of parts, of which a property goes over to the whole.
-use Rattle.std.proofs.Common.{◌≡◌, List, [], ◌∷◌, ◌++◌, Option, Some, None}
+use Rattle.std.proofs.Common.{◌≡◌, List, [], ◌∷◌, Option, Some, None}
 use Rattle.std.specs.List.{AllByRecursion, flat_map}
 use Rattle.hr_base.specs.declared.lexeme.Item.{Item}
 use Rattle.hr_tree.specs.declared.names.Operator.{Operator}
@@ -8,7 +8,7 @@ use Rattle.hr_tree.specs.Names.{maybe_item, maybe_operator}
 use Rattle.hr_tree.specs.Lists.{listed_items}
 use Rattle.hr_grammar.specs.Spelled.{Maybe}
 use Rattle.hr_grammar.specs.Separated.{AreSeparated, There}
-use Rattle.hr_phrases.specs.Phrases.{Joins}
+use Rattle.hr_phrases.proofs.Rules.{Joins}
 
 -- an item before others
 pub put : {P : List Item → Type 0} → Joins P → (item : Item) (items : List Item) → P (item ∷ []) → P items → P (item ∷ items)

@@ -1,16 +1,15 @@
 -- What goes over from the parts of trees to the whole is true of the items of each module.
-use Rattle.std.proofs.Common.{ℕ, List, [], ◌∷◌, ◌++◌, subst}
+use Rattle.std.proofs.Common.{ℕ, List, subst}
 use Rattle.hr_base.specs.declared.lexeme.Item.{Item}
 use Rattle.hr_base.specs.declared.lexeme.Items.{Items}
 use Rattle.hr_tree.specs.declared.modules.Module.{Module}
 use Rattle.hr_tree.specs.Lists.{block_items}
 use Rattle.hr_tree.specs.Yields.{decl_items, header_items, module_items}
 use Rattle.hr_grammar.specs.Nodes.{DeclPlace}
-use Rattle.hr_grammar.specs.Yields.{IsModule, DeepYields}
-use Rattle.hr_phrases.specs.Phrases.{Joins, InTrees, TreesKeep}
+use Rattle.hr_grammar.specs.Yields.{IsModule}
+use Rattle.hr_phrases.proofs.Rules.{InTrees, TreesKeep}
 use Rattle.hr_phrases.proofs.Names.{patterns_of}
 use Rattle.hr_phrases.proofs.Imports.{header_keeps}
-use Rattle.hr_phrases.proofs.Expressions.{Below}
 use Rattle.hr_phrases.proofs.Declarations.{levels_keep}
 
 pub modules_keep : {P Q : List Item → Type 0} → InTrees P Q → (levels : ℕ) (tree : Module) → IsModule levels tree → P (module_items tree)

@@ -1,6 +1,5 @@
 -- Names, operators and literals: each is plain, or stands in brackets with what is plain.
-use Rattle.std.proofs.Common.{◌≡◌, ◌⊎◌, ℕ, false, List, [], ◌∷◌, ◌++◌, refl, ap, ap₂, ◌∙◌, inl, inr}
-use Rattle.std.specs.List.{AllByRecursion}
+use Rattle.std.proofs.Common.{◌≡◌, ◌⊎◌, ℕ, false, List, [], ◌∷◌, refl, ap, ap₂, ◌∙◌, inl, inr}
 use lib.Chars.{codes}
 use Rattle.hr_base.specs.declared.lexeme.Class.{Class}
 use Rattle.hr_base.specs.declared.lexeme.Item.{Item}
@@ -8,29 +7,19 @@ use Rattle.hr_tree.specs.declared.names.Variable.{Variable as Named}
 use Rattle.hr_tree.specs.declared.names.Constructor.{Constructor as Built}
 use Rattle.hr_tree.specs.declared.names.Operator.{Operator}
 use Rattle.hr_tree.specs.Names.{constructor_items, variable_items, operator_items}
-use Rattle.hr_grammar.specs.Words.{IsOf, IsText, IsReserved, IsComma, IsMinus, IsLiteral, IsArrow}
+use Rattle.hr_grammar.specs.Words.{IsOf, IsText, IsComma, IsMinus, IsLiteral}
 use Rattle.hr_grammar.specs.Spelled.{IsColon, IsVariable, IsNamedVariable, IsConstructor, IsTypeConstructor, IsOwnConstructor, IsOwnOperator, IsConstructorOperator, IsVariableOperator, IsOperator}
-use Rattle.hr_phrases.specs.Phrases.{parting_marks, is_paired, is_parting, Joins, InPatterns, InTrees}
+use Rattle.hr_phrases.specs.Partners.{parting_marks}
+use Rattle.hr_phrases.proofs.Rules.{is_paired, is_parting, InPatterns, InTrees}
 use Rattle.hr_phrases.proofs.Tables.{none_of}
 use Rattle.hr_phrases.proofs.Lists.{put, all_items}
 
 -- what parts nothing is no lexeme of a pair
 paired_parts : (class : Class) (text : List ℕ) → is_parting class text ≡ false → is_paired class text ≡ false
-paired_parts Class.VarId text e = refl
-paired_parts Class.ConId text e = refl
-paired_parts Class.QVarId text e = refl
-paired_parts Class.QConId text e = refl
-paired_parts Class.VarSym text e = refl
-paired_parts Class.ConSym text e = refl
-paired_parts Class.QVarSym text e = refl
-paired_parts Class.QConSym text e = refl
-paired_parts Class.Integer text e = refl
-paired_parts Class.Float text e = refl
-paired_parts Class.Char text e = refl
-paired_parts Class.Str text e = refl
 paired_parts Class.ReservedId text e = e
 paired_parts Class.ReservedOp text e = (none_of parting_marks text e).0
 paired_parts Class.Special text e = e
+paired_parts _ text e = refl
 
 -- what goes over in trees goes over in patterns
 pub patterns_of : {P Q : List Item → Type 0} → InTrees P Q → InPatterns P

@@ -5,10 +5,10 @@ use Rattle.std.proofs.lemmas.List.Folds.{list_any-append}
 use lib.Chars.{codes}
 use Rattle.hr_base.specs.declared.lexeme.Class.{Class}
 use Rattle.hr_base.specs.declared.lexeme.Item.{Item}
-use Rattle.hr_grammar.specs.Words.{IsOf, IsText, IsWord, IsLeftSquare, IsRightSquare}
+use Rattle.hr_grammar.specs.Words.{IsOf, IsText, IsWord}
 use Rattle.hr_grammar.proofs.PartFirsts.{either_true}
-use Rattle.hr_phrases.specs.Phrases.{paired_words, is_paired, is_parting, Joins, InPatterns, InTrees}
 use Rattle.hr_phrases.specs.Partners.{Has, is_let, is_back_arrow, is_left_square, is_in_or_left_square, is_parting_mark, LetHasIn, BackArrowInBrackets, PatternsHaveNoBar}
+use Rattle.hr_phrases.proofs.Rules.{paired_words, is_paired, is_parting, Joins, InPatterns, InTrees}
 use Rattle.hr_phrases.proofs.Lists.{put}
 use Rattle.hr_phrases.proofs.Tables.{none_of}
 use Rattle.hr_phrases.proofs.TypesAndPatterns.{patterns_keep}
@@ -91,38 +91,12 @@ tests_keep first second tests = record {
 }
 
 no_let : (class : Class) (text : List ℕ) → is_paired class text ≡ false → is_let class text ≡ false
-no_let Class.VarId text e = refl
-no_let Class.ConId text e = refl
-no_let Class.QVarId text e = refl
-no_let Class.QConId text e = refl
-no_let Class.VarSym text e = refl
-no_let Class.ConSym text e = refl
-no_let Class.QVarSym text e = refl
-no_let Class.QConSym text e = refl
-no_let Class.Integer text e = refl
-no_let Class.Float text e = refl
-no_let Class.Char text e = refl
-no_let Class.Str text e = refl
 no_let Class.ReservedId text e = (none_of paired_words text e).0
-no_let Class.ReservedOp text e = refl
-no_let Class.Special text e = refl
+no_let _ text e = refl
 
 no_back_arrow : (class : Class) (text : List ℕ) → is_paired class text ≡ false → is_back_arrow class text ≡ false
-no_back_arrow Class.VarId text e = refl
-no_back_arrow Class.ConId text e = refl
-no_back_arrow Class.QVarId text e = refl
-no_back_arrow Class.QConId text e = refl
-no_back_arrow Class.VarSym text e = refl
-no_back_arrow Class.ConSym text e = refl
-no_back_arrow Class.QVarSym text e = refl
-no_back_arrow Class.QConSym text e = refl
-no_back_arrow Class.Integer text e = refl
-no_back_arrow Class.Float text e = refl
-no_back_arrow Class.Char text e = refl
-no_back_arrow Class.Str text e = refl
-no_back_arrow Class.ReservedId text e = refl
 no_back_arrow Class.ReservedOp text e = e
-no_back_arrow Class.Special text e = refl
+no_back_arrow _ text e = refl
 
 pub let_has_in_lem : LetHasIn
 let_has_in_lem = trees_keep_lem (Implies is_let is_in_or_left_square) (λ xs. Unit {0}) (tests_keep is_let is_in_or_left_square (record { plain = no_let; special = λ text. refl; square = refl; words = inr refl }))
@@ -133,21 +107,8 @@ back_arrow_in_brackets_lem =
 
 -- patterns
 no_mark : (class : Class) (text : List ℕ) → is_parting class text ≡ false → is_parting_mark class text ≡ false
-no_mark Class.VarId text e = refl
-no_mark Class.ConId text e = refl
-no_mark Class.QVarId text e = refl
-no_mark Class.QConId text e = refl
-no_mark Class.VarSym text e = refl
-no_mark Class.ConSym text e = refl
-no_mark Class.QVarSym text e = refl
-no_mark Class.QConSym text e = refl
-no_mark Class.Integer text e = refl
-no_mark Class.Float text e = refl
-no_mark Class.Char text e = refl
-no_mark Class.Str text e = refl
-no_mark Class.ReservedId text e = refl
 no_mark Class.ReservedOp text e = e
-no_mark Class.Special text e = refl
+no_mark _ text e = refl
 
 abbrev AreUnmarked : List Item → Type 0
 AreUnmarked = AllByRecursion (λ (item : Item). is_parting_mark item.lexeme.class item.lexeme.text ≡ false)

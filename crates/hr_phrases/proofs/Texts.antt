@@ -1,6 +1,5 @@
 -- Lexemes that no tree yields.
-use Rattle.std.proofs.Common.{◌≡◌, ℕ, true, false, List, [], ◌∷◌, Option, Some, None, refl, sym, ◌∙◌, true≢false}
-use lib.Chars.{codes}
+use Rattle.std.proofs.Common.{◌≡◌, ℕ, Option, Some, None, refl, sym, true≢false}
 use Rattle.hr_phrases.specs.Texts.{UnopenedHasNoTree, UnclosedHasNoTree, LetWithoutInHasNoTree}
 use Rattle.hr_phrases.proofs.Balance.{parentheses_balance_lem}
 use Rattle.hr_phrases.proofs.Partners.{let_has_in_lem}

@@ -1,11 +1,10 @@
 -- What goes over from the parts of types and patterns to the whole is true of each of them.
-use Rattle.std.proofs.Common.{◌≡◌, ℕ, zero, suc, List, [], ◌∷◌, ◌++◌, Option, Some, None, refl, sym, ap, ◌∙◌, subst}
+use Rattle.std.proofs.Common.{ℕ, zero, suc, List, [], ◌∷◌, ◌++◌, refl, sym, ap, ◌∙◌, subst}
 use Rattle.std.specs.List.{flat_map}
 use Rattle.std.proofs.lemmas.List.Folds.{flat_map-map}
 use lib.Chars.{codes}
 use Rattle.hr_base.specs.declared.lexeme.Class.{Class}
 use Rattle.hr_base.specs.declared.lexeme.Item.{Item}
-use Rattle.hr_tree.specs.declared.names.Operator.{Operator}
 use Rattle.hr_tree.specs.declared.lists.Listed.{Listed}
 use Rattle.hr_tree.specs.declared.lists.Operand.{Operand}
 use Rattle.hr_tree.specs.declared.types.Ty.{Ty, out-Ty, roll-Ty}
@@ -20,12 +19,11 @@ use Rattle.hr_tree.specs.Names.{constructor_items, variable_items, maybe_item, m
 use Rattle.hr_tree.specs.Lists.{listed_items, operand_items}
 use Rattle.hr_tree.specs.Yields.{done, ty_layer, ty_items, pat_layer, pat_items}
 use Rattle.hr_grammar.specs.Words.{IsComma}
-use Rattle.hr_grammar.specs.Spelled.{IsConstructorOperator}
 use Rattle.hr_grammar.specs.Nodes.{TyPlace, PatPlace}
 use Rattle.hr_grammar.specs.Types.{TyProduction}
 use Rattle.hr_grammar.specs.Patterns.{PatProduction, ArePatOperands}
 use Rattle.hr_grammar.specs.Yields.{nodes}
-use Rattle.hr_phrases.specs.Phrases.{Joins, InPatterns, InTrees}
+use Rattle.hr_phrases.proofs.Rules.{InPatterns, InTrees}
 use Rattle.hr_phrases.proofs.Lists.{put, absent, no_operator, all_of, separated}
 use Rattle.hr_phrases.proofs.Names.{patterns_of, of_class, of_text, of_word, comma, minus, literal, constructor, type_constructor, variable, constructor_operator}
 

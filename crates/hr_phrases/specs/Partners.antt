@@ -1,6 +1,6 @@
 -- Lexemes that stand with others alone: a `let` with its `in` (Haskell 98 Report, section 3.12), but for that of a
 -- qualifier, which stands in square brackets as `<-` does (section 3.11); and those that no pattern has (section 3.17).
-use Rattle.std.specs.Prelude.{ℕ, ◌≡◌, Bool, true, false, List}
+use Rattle.std.specs.Prelude.{ℕ, ◌≡◌, Bool, true, false, List, [], ◌∷◌}
 use Rattle.std.specs.List.{AllByRecursion, list_any}
 use lib.Chars.{codes}
 use Rattle.hr_base.specs.declared.lexeme.Class.{Class}
@@ -10,7 +10,7 @@ use Rattle.hr_tree.specs.declared.patterns.Pat.{Pat}
 use Rattle.hr_tree.specs.Yields.{pat_items}
 use Rattle.hr_grammar.specs.Nodes.{PatPlace}
 use Rattle.hr_grammar.specs.Yields.{nodes}
-use Rattle.hr_phrases.specs.Phrases.{parting_marks, Everywhere}
+use Rattle.hr_phrases.specs.Phrases.{Everywhere}
 
 -- some item is of a class and text that pass the test
 abbrev pub Has : (Class → List ℕ → Bool) → List Item → Type 0
@@ -41,7 +41,10 @@ LetHasIn = Everywhere (λ items. Has is_let items → Has is_in_or_left_square i
 abbrev pub BackArrowInBrackets : Type 0
 BackArrowInBrackets = Everywhere (λ items. Has is_back_arrow items → Has is_left_square items)
 
--- `<-`, `=`, `|` and `->`
+-- the reserved operators that stand between a pattern and what is behind it
+abbrev pub parting_marks : List (List ℕ)
+parting_marks = codes "<-" ∷ codes "=" ∷ codes "|" ∷ codes "->" ∷ []
+
 abbrev pub is_parting_mark : Class → List ℕ → Bool
 is_parting_mark Class.ReservedOp text = is_one_of parting_marks text
 is_parting_mark _ text = false

@@ -11,18 +11,18 @@ use Rattle.hr_grammar.specs.Yields.{DeepYields}
 abbrev pub HasNoTree : List Item → Type 0
 HasNoTree items = (tail : List ℕ) (tree : Module) → DeepYields tree (record { list = items; tail = tail }) → ⊥
 
--- `f = )`
+-- a parenthesis that closes and has not opened (Haskell 98 Report, section 3.9): `f = )`
 abbrev pub UnopenedHasNoTree : Type 0
 UnopenedHasNoTree = (first second third : List ℕ) → HasNoTree (item Class.VarId first (codes "f") ∷ item Class.ReservedOp second (codes "=") ∷ item Class.Special third (codes ")") ∷ [])
 
--- `main s = (s` with `x = 1` on the line below
+-- one that opens and does not close: `main s = (s` with `x = 1` on the line below
 abbrev pub UnclosedHasNoTree : Type 0
 UnclosedHasNoTree = (first second third fourth fifth sixth seventh eighth : List ℕ) → HasNoTree (
     item Class.VarId first (codes "main") ∷ item Class.VarId second (codes "s") ∷ item Class.ReservedOp third (codes "=") ∷ item Class.Special fourth (codes "(") ∷ item Class.VarId fifth (codes "s")
     ∷ item Class.VarId sixth (codes "x") ∷ item Class.ReservedOp seventh (codes "=") ∷ item Class.Integer eighth (codes "1") ∷ []
     )
 
--- `main s = let x = 1`
+-- a `let` with no `in` (section 3.12): `main s = let x = 1`
 abbrev pub LetWithoutInHasNoTree : Type 0
 LetWithoutInHasNoTree = (first second third fourth fifth sixth seventh : List ℕ) → HasNoTree (
     item Class.VarId first (codes "main") ∷ item Class.VarId second (codes "s") ∷ item Class.ReservedOp third (codes "=") ∷ item Class.ReservedId fourth (codes "let") ∷ item Class.VarId fifth (codes "x")
