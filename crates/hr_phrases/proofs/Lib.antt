@@ -1,0 +1,12 @@
+pub mod Balance
+pub mod Declarations
+pub mod Expressions
+pub mod Imports
+pub mod Lists
+pub mod Modules
+pub mod Names
+pub mod Partners
+pub mod Rules
+pub mod Tables
+pub mod Texts
+pub mod TypesAndPatterns

@@ -1,0 +1,4 @@
+pub mod Balance
+pub mod Partners
+pub mod Phrases
+pub mod Texts

@@ -1,0 +1,10 @@
+//! What stands between the lexemes of a tree: brackets balance, and a `let` has its `in`. Nothing here runs.
+#![tactic(auto)]
+
+mod laws;
+
+pub use laws::{
+    back_arrow_in_brackets, braces_balance, let_has_in, let_without_in_has_no_tree,
+    parentheses_balance, patterns_have_no_bar, square_brackets_balance, unclosed_has_no_tree,
+    unopened_has_no_tree,
+};
