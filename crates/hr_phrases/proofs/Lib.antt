@@ -1,2 +1,3 @@
 pub mod PlainExpressions
 pub mod PlainLexemes
+pub mod PlainPhrases

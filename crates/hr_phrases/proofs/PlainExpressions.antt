@@ -168,7 +168,10 @@ by_layer levels free place (Exp-F.Infix (operand ∷ (next ∷ rest))) is p o =
 by_layer levels free place (Exp-F.Annotated part colons ty) is p o = clash Class.ReservedOp (codes "::") colons is.3 refl (all_right IsPlain (exp_items part) (colons ∷ ty_items ty) p).0
 by_layer levels free place (Exp-F.Fields part left fields right) is p o = elim is [ ]
 
+pub plain_level : {C : Type 0} (levels : ℕ) (free : Bool) (place : ExpPlace) (exp : Exp) → (nodes (suc levels)).exp free place exp → ArePlain (exp_items exp) → Outcomes C levels free place exp → C
+plain_level {C} levels free place exp is p o =
+    by_layer levels free place (out-Exp exp) is (subst ArePlain (ap exp_items (sym (roll-out-Exp exp)) ∙ rolled (out-Exp exp)) p) (subst (Outcomes C levels free place) (sym (roll-out-Exp exp)) o)
+
 pub plain_exp : {C : Type 0} (levels : ℕ) (free : Bool) (place : ExpPlace) (exp : Exp) → (nodes levels).exp free place exp → ArePlain (exp_items exp) → ((below : ℕ) → Outcomes C below free place exp) → C
 plain_exp zero free place exp is p o = elim is [ ]
-plain_exp {C} (suc levels) free place exp is p o =
-    by_layer levels free place (out-Exp exp) is (subst ArePlain (ap exp_items (sym (roll-out-Exp exp)) ∙ rolled (out-Exp exp)) p) (subst (Outcomes C levels free place) (sym (roll-out-Exp exp)) (o levels))
+plain_exp (suc levels) free place exp is p o = plain_level levels free place exp is p (o levels)
