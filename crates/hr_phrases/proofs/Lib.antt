@@ -1,3 +1,4 @@
+pub mod GuardedChoice
 pub mod PlainExpressions
 pub mod PlainLexemes
 pub mod PlainPhrases
