@@ -1,3 +1,4 @@
+pub mod Comprehension
 pub mod GuardedChoice
 pub mod PlainExpressions
 pub mod PlainLexemes

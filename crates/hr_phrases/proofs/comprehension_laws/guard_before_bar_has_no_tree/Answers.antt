@@ -1,4 +1,4 @@
-use Rattle.hr_phrases.proofs.GuardedChoice.{alternative}
+use Rattle.hr_phrases.proofs.Comprehension.{comprehended}
 use Rattle.hr_phrases.proofs.comprehension_laws.guard_before_bar_has_no_tree.Goals as goal
 
 pub returns : goal.returns
