@@ -1,5 +1,5 @@
 -- `[case x of y | a -> 1 | b <- c]` is a comprehension, with the second `|` as its own.
-use Rattle.std.proofs.Common.{◌≡◌, ◌⊎◌, ℕ, zero, suc, Bool, true, false, List, [], ◌∷◌, ◌++◌, refl, sym, ap, ◌∙◌, subst, inl, inr, true≢false}
+use Rattle.std.proofs.Common.{◌≡◌, ◌⊎◌, ℕ, Bool, true, List, [], ◌∷◌, ◌++◌, refl, sym, ap, ◌∙◌, subst, inl, inr, true≢false}
 use Rattle.std.specs.List.{flat_map}
 use Rattle.std.proofs.lemmas.List.{append_assoc}
 use lib.Chars.{codes}
@@ -13,8 +13,7 @@ use Rattle.hr_tree.specs.declared.expressions.Alt.{Alt}
 use Rattle.hr_tree.specs.declared.expressions.Qualifier.{Qualifier, out-Qualifier, roll-Qualifier}
 use Rattle.hr_tree.specs.declared.expressions.Decl.TheOpen.{Exp-F, Qualifier-F}
 use Rattle.hr_tree.specs.declared.expressions.Decl.TheViews.{roll-out-Qualifier, rolls-Generator, rolls-Locals, rolls-Test}
-use Rattle.hr_tree.specs.Lists.{block_items}
-use Rattle.hr_tree.specs.Yields.{pat_items, exp_items, decl_items, qualifier_items}
+use Rattle.hr_tree.specs.Yields.{pat_items, exp_items, qualifier_items}
 use Rattle.hr_tree.proofs.ExpressionYields.{qualifier_generator, qualifier_locals, qualifier_test}
 use Rattle.hr_grammar.specs.Words.{IsBar}
 use Rattle.hr_grammar.specs.Nodes.{PatPlace, ExpPlace}

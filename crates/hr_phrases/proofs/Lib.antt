@@ -1,4 +1,6 @@
 pub mod Comprehension
+pub mod ComprehensionBinding
+pub mod GuardBeforeBar
 pub mod GuardedChoice
 pub mod PlainExpressions
 pub mod PlainLexemes

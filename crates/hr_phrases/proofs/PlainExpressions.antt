@@ -1,8 +1,8 @@
 -- What an expression is whose lexemes are of a small vocabulary.
-use Rattle.std.proofs.Common.{◌≡◌, ◌≢◌, ◌⊎◌, ℕ, zero, suc, Bool, true, List, [], ◌∷◌, ◌++◌, Option, Some, None, refl, sym, ap, ◌∙◌, subst, inl, inr}
+use Rattle.std.proofs.Common.{◌≡◌, ◌≢◌, ℕ, zero, suc, Bool, true, List, [], ◌∷◌, ◌++◌, Option, Some, None, refl, sym, ap, ◌∙◌, subst, inl, inr}
 use Rattle.std.specs.Prelude.{IsSome}
-use Rattle.std.specs.List.{AllByRecursion, flat_map}
-use Rattle.std.proofs.lemmas.List.{append-nil, append_assoc}
+use Rattle.std.specs.List.{flat_map}
+use Rattle.std.proofs.lemmas.List.{append-nil}
 use lib.Chars.{codes}
 use Rattle.hr_base.specs.declared.lexeme.Class.{Class}
 use Rattle.hr_base.specs.declared.lexeme.Item.{Item}
@@ -21,17 +21,15 @@ use Rattle.hr_tree.specs.Names.{constructor_items, variable_items, operator_item
 use Rattle.hr_tree.specs.Lists.{listed_items, operand_items, field_items, block_items}
 use Rattle.hr_tree.specs.Yields.{ty_items, pat_items, exp_layer, decl_layer, qualifier_layer, alt_layer, exp_items, decl_items, qualifier_items, alt_items}
 use Rattle.hr_tree.proofs.ExpressionYields.{exp_group, exp_tuple, exp_list, exp_from, exp_from_then, exp_from_to, exp_from_then_to, exp_comprehension, exp_left_section, exp_right_section, exp_apply, exp_infix, exp_annotated, exp_lambda, exp_let, exp_if, exp_case, exp_fields}
-use Rattle.hr_grammar.specs.Words.{IsText, IsWord, IsMinus, IsComma, IsBar, IsLeftSquare, IsRightSquare}
+use Rattle.hr_grammar.specs.Words.{IsWord, IsMinus, IsComma, IsBar, IsLeftSquare, IsRightSquare}
 use Rattle.hr_grammar.specs.Spelled.{Maybe}
 use Rattle.hr_grammar.specs.Separated.{AreSeparated, There}
 use Rattle.hr_grammar.specs.Nodes.{ExpPlace}
 use Rattle.hr_grammar.specs.Expressions.{ExpProduction, IsQualifierOver, takes_operand}
 use Rattle.hr_grammar.specs.Spans.{Laid, bare, decl_laid, exp_laid, qualifier_laid, alt_laid}
-use Rattle.hr_grammar.specs.Firsts.{BeginsExpression}
 use Rattle.hr_grammar.specs.Yields.{nodes}
-use Rattle.hr_grammar.proofs.Firsts.{expressions_begin_lem}
 use Rattle.hr_grammar.proofs.Laid.{of_exp, laid_by}
-use Rattle.hr_phrases.proofs.PlainLexemes.{IsPlain, ArePlain, is_atomic, all_left, all_right, clash, operator_clash, no_atom}
+use Rattle.hr_phrases.proofs.PlainLexemes.{IsPlain, ArePlain, is_atomic, all_left, all_right, clash, operator_clash}
 
 -- the lexemes of a node
 abbrev pub layer_items : Exp-F Decl Exp Qualifier Alt → List Item
@@ -87,13 +85,13 @@ pub record Outcomes (C : Type 0) (levels : ℕ) (free : Bool) (place : ExpPlace)
   pub empty : (left right : Item) → IsLeftSquare left → IsRightSquare right → exp_items exp ≡ left ∷ right ∷ [] → C
   pub list : (left : Item) (part : Exp) (right : Item) → IsLeftSquare left → (nodes levels).exp true ExpPlace.Whole part → IsRightSquare right → exp_items exp ≡ left ∷ (exp_items part ++ right ∷ []) → C
   pub comprehension : (left : Item) (part : Exp) (bar : Item) (qualifiers : List (Listed Qualifier)) (qualifier : Qualifier) (right : Item) → exp ≡ roll-Exp (Exp-F.Comprehension left part bar qualifiers right)
-    → IsLeftSquare left → (nodes levels).exp true ExpPlace.Whole part → IsBar bar → IsQualifierOver (nodes levels) qualifier → IsRightSquare right
-    → exp_items exp ≡ left ∷ (exp_items part ++ bar ∷ (qualifier_items qualifier ++ right ∷ [])) → C
+      → IsLeftSquare left → (nodes levels).exp true ExpPlace.Whole part → IsBar bar → IsQualifierOver (nodes levels) qualifier → IsRightSquare right
+      → exp_items exp ≡ left ∷ (exp_items part ++ bar ∷ (qualifier_items qualifier ++ right ∷ [])) → C
   pub application : takes_operand place ≡ true → (first second : Exp) (rest : List Exp) → (nodes levels).exp free ExpPlace.Atom first → (nodes levels).exp free ExpPlace.Atom second
-    → exp_items exp ≡ exp_items first ++ (exp_items second ++ flat_map exp_items rest) → C
+      → exp_items exp ≡ exp_items first ++ (exp_items second ++ flat_map exp_items rest) → C
   pub choice : takes_operand place ≡ true → (word : Item) (part : Exp) (of_word : Item) (block : Block Alt) → exp ≡ roll-Exp (Exp-F.Case word part of_word block)
-    → IsWord (codes "case") word → (nodes levels).exp free ExpPlace.Whole part → IsWord (codes "of") of_word → (nodes levels).alternatives block
-    → exp_items exp ≡ word ∷ (exp_items part ++ of_word ∷ block_items alt_items block) → C
+      → IsWord (codes "case") word → (nodes levels).exp free ExpPlace.Whole part → IsWord (codes "of") of_word → (nodes levels).alternatives block
+      → exp_items exp ≡ word ∷ (exp_items part ++ of_word ∷ block_items alt_items block) → C
 
 -- a list without a comma has one part
 one_part : {C : Type 0} {T : Type 0} (of : T → List Item) (Is : T → Type 0) (parts : List (Listed T)) (more : List Item) → AreSeparated IsComma Is parts → parts ≢ [] → ArePlain (flat_map (listed_items of) parts ++ more)

@@ -1,5 +1,5 @@
 -- A small vocabulary, and lists of lexemes that are cut before one of them.
-use Rattle.std.proofs.Common.{◌≡◌, ◌⊎◌, ℕ, Bool, true, false, List, [], ◌∷◌, ◌++◌, Option, Some, None, refl, sym, ap, ap₂, ◌∙◌, subst, inl, inr, true≢false}
+use Rattle.std.proofs.Common.{◌≡◌, ◌⊎◌, ℕ, Bool, true, false, List, [], ◌∷◌, ◌++◌, refl, sym, ap, ap₂, ◌∙◌, inl, inr, true≢false}
 use Rattle.std.specs.List.{AllByRecursion}
 use lib.Chars.{codes}
 use Rattle.hr_base.specs.declared.lexeme.Class.{Class}
@@ -8,7 +8,7 @@ use Rattle.hr_rules.specs.Names.{is_one_of, is_spelled}
 use Rattle.hr_tree.specs.declared.names.Operator.{Operator}
 use Rattle.hr_tree.specs.Names.{operator_items}
 use Rattle.hr_grammar.specs.Words.{IsOf, IsText}
-use Rattle.hr_grammar.specs.Spelled.{IsColon, IsConstructorOperator, IsVariableOperator, IsOwnVariableOperator, IsOperator}
+use Rattle.hr_grammar.specs.Spelled.{IsConstructorOperator, IsVariableOperator, IsOwnVariableOperator, IsOperator}
 
 -- names, literals, `[`, `]`, `=`, `|`, `->`, `<-`, `case` and `of`
 abbrev pub is_plain : Class → List ℕ → Bool

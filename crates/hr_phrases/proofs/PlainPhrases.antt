@@ -1,6 +1,6 @@
 -- Phrases of a small vocabulary that begin with a given lexeme.
-use Rattle.std.proofs.Common.{◌≡◌, ◌≢◌, ◌⊎◌, ℕ, zero, suc, Bool, true, false, List, [], ◌∷◌, ◌++◌, Option, Some, None, refl, sym, ap, ◌∙◌, subst, inl, inr, true≢false}
-use Rattle.std.specs.List.{AllByRecursion, flat_map}
+use Rattle.std.proofs.Common.{◌≡◌, ℕ, zero, suc, Bool, true, false, List, [], ◌∷◌, ◌++◌, refl, sym, ap, ◌∙◌, subst, inl, inr, true≢false}
+use Rattle.std.specs.List.{flat_map}
 use Rattle.std.proofs.lemmas.List.{append-nil, append_assoc}
 use lib.Chars.{codes}
 use Rattle.hr_base.specs.declared.lexeme.Class.{Class}
@@ -30,7 +30,7 @@ use Rattle.hr_grammar.specs.Firsts.{Begins, begins_operand, opens_expression, Be
 use Rattle.hr_grammar.specs.Yields.{nodes}
 use Rattle.hr_grammar.proofs.Firsts.{expressions_begin_lem}
 use Rattle.hr_grammar.proofs.Laid.{of_exp, laid_by}
-use Rattle.hr_phrases.proofs.PlainLexemes.{IsPlain, ArePlain, is_atomic, all_left, all_right, clash, clash_class, constructor_operator_clash, misspelled, no_atom}
+use Rattle.hr_phrases.proofs.PlainLexemes.{IsPlain, ArePlain, is_atomic, all_left, all_right, clash, constructor_operator_clash, no_atom}
 use Rattle.hr_phrases.proofs.PlainExpressions.{plain_level, plain_exp}
 
 pub head_same : {T : Type 0} {x y : T} {xs ys : List T} → x ∷ xs ≡ y ∷ ys → x ≡ y
