@@ -31,40 +31,40 @@ use Rattle.hr_grammar.specs.Firsts.{Begins, opens_part, BeginsExpression}
 use Rattle.hr_grammar.specs.Yields.{nodes}
 use Rattle.hr_grammar.proofs.Firsts.{begins_more}
 use Rattle.hr_grammar.proofs.PartFirsts.{alternatives_begin_lem}
-use Rattle.hr_phrases.specs.GuardBeforeBar.{name, number}
+use Rattle.hr_phrases.specs.GuardBeforeBar.{named, numbered}
 use Rattle.hr_phrases.proofs.PlainLexemes.{IsPlain, ArePlain, all_left, all_right, clash, misspelled, cut_nowhere}
 use Rattle.hr_phrases.proofs.PlainPhrases.{head_same, tail_same, no_beginning, begins_not, IsAtom, begun_atom, begun_case, begun_pattern}
 
 -- the lexemes
 abbrev pub the_x : Item
-the_x = name (codes "x")
+the_x = named (codes "x")
 
 abbrev pub the_of : Item
 the_of = word (codes "of")
 
 abbrev pub the_y : Item
-the_y = name (codes "y")
+the_y = named (codes "y")
 
 abbrev pub the_bar : Item
 the_bar = mark (codes "|")
 
 abbrev pub the_a : Item
-the_a = name (codes "a")
+the_a = named (codes "a")
 
 abbrev pub the_arrow : Item
 the_arrow = mark (codes "->")
 
 abbrev pub the_one : Item
-the_one = number (codes "1")
+the_one = numbered (codes "1")
 
 abbrev pub the_b : Item
-the_b = name (codes "b")
+the_b = named (codes "b")
 
 abbrev pub the_back : Item
 the_back = mark (codes "<-")
 
 abbrev pub the_c : Item
-the_c = name (codes "c")
+the_c = named (codes "c")
 
 abbrev pub the_case : Item
 the_case = item Class.ReservedId [] (codes "case")

@@ -3,4 +3,4 @@
 
 mod comprehension_laws;
 
-pub use comprehension_laws::guard_before_bar_has_no_tree;
+pub use comprehension_laws::{guard_before_bar_has_no_tree, guard_before_bar_is_of_the_grammar};
