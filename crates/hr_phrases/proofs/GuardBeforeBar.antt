@@ -27,6 +27,7 @@ use Rattle.hr_grammar.specs.Nodes.{DeclPlace, ExpPlace}
 use Rattle.hr_grammar.specs.Blocks.{IsPiece, AreBraced}
 use Rattle.hr_grammar.specs.Spans.{Span, Stretch, Laid, bare, ◌▷◌, right_side_laid, decl_laid, exp_laid, qualifier_laid, alt_laid, laid_of, spans_of}
 use Rattle.hr_grammar.specs.Offside.{placed_among, IsOffside, StandsWell, Offside}
+use Rattle.hr_grammar.specs.Worked.{only}
 use Rattle.hr_grammar.specs.Firsts.{Begins, opens_part, kind_at}
 use Rattle.hr_grammar.specs.Yields.{nodes, IsHeader, IsModule}
 use Rattle.hr_grammar.proofs.Firsts.{begins_more}
@@ -133,12 +134,13 @@ bound_falls col decl spans found one good =
     never_ends spans col one chosen.col
     (choice_stands (StandsWell spans (placed spans)) col part.part chosen (comprehension_stands (StandsWell spans (placed spans)) col found.body part (binding_stands (StandsWell spans (placed spans)) col decl found good)))
 
-abbrev one_part : ℕ → Decl → List ℕ → Module
-one_part col decl tail = record { header = None; body = record { layout = Layout.Implicit col; pieces = Piece.Part decl ∷ [] }; tail = tail }
+-- a module of one declaration
+abbrev binds_alone : ℕ → Decl → List ℕ → Module
+binds_alone col decl tail = record { header = None; body = only col decl; tail = tail }
 
-one_part_falls : (col : ℕ) (decl : Decl) (tail : List ℕ) → Bound decl [] → module_items (one_part col decl tail) ≡ guard_before_bar → Offside (one_part col decl tail) → ⊥
-one_part_falls col decl tail found same offside =
-    let spans = spans_of (one_part col decl tail) in
+alone_falls : (col : ℕ) (decl : Decl) (tail : List ℕ) → Bound decl [] → module_items (binds_alone col decl tail) ≡ guard_before_bar → Offside (binds_alone col decl tail) → ⊥
+alone_falls col decl tail found same offside =
+    let spans = spans_of (binds_alone col decl tail) in
     let stands = subst (λ items. AllByRecursion (StandsWell spans (placed_among spans 0 (placed_of items))) spans) same offside in
     bound_falls col decl spans found stands.0.column (all_left (StandsWell spans (placed spans)) ((laid_of decl).blocks col 0) [] stands.1)
 
@@ -158,7 +160,7 @@ module_falls levels None (Layout.Implicit col) (Piece.Part decl ∷ pieces) tail
     let whole : decl_items decl ++ more ≡ guard_before_bar = sym (append-nil (decl_items decl ++ more)) ∙ e in
     let found = bound levels are.0.0 decl are.0.1 (all_left IsPlain (decl_items decl) more (subst ArePlain (sym whole) all_plain)) more whole in
     let none = none_left levels pieces are.1 found.body_is.behind in
-    one_part_falls col decl tail (subst (Bound decl) found.body_is.behind found)
+    alone_falls col decl tail (subst (Bound decl) found.body_is.behind found)
     (subst (λ l. module_items (record { header = None; body = record { layout = Layout.Implicit col; pieces = Piece.Part decl ∷ l }; tail = tail }) ≡ guard_before_bar) none e)
     (subst (λ l. Offside (record { header = None; body = record { layout = Layout.Implicit col; pieces = Piece.Part decl ∷ l }; tail = tail })) none offside)
 
