@@ -1,4 +1,5 @@
 pub mod Balance
+pub mod GuardBeforeBar
 pub mod Partners
 pub mod Phrases
 pub mod Texts
