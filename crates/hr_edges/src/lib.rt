@@ -1,0 +1,10 @@
+//! Where the blocks of trees begin, and with which lexemes trees end: laws of the grammar's definitions,
+//! which the proof of the parser goes by. Nothing here runs.
+#![tactic(auto)]
+
+mod laws;
+
+pub use laws::{
+    alternatives_end, blocks_begin, bodies_alone, declarations_end, expressions_end, patterns_end,
+    types_end,
+};
