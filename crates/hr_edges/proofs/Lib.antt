@@ -6,3 +6,6 @@ pub mod PartStretches
 pub mod Modules
 pub mod Lasts
 pub mod PartLasts
+pub mod Bodies
+pub mod FirstBlocks
+pub mod NoTrees

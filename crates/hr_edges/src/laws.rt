@@ -1,6 +1,7 @@
 //! Laws about the edges of trees and of their blocks.
-ghost use Rattle.hr_edges.specs.Laws.{BlocksBegin, BodiesAlone};
+ghost use Rattle.hr_edges.specs.Laws.{BlocksBegin, BodiesAlone, FirstBlocksAgree};
 ghost use Rattle.hr_edges.specs.Lasts.{AlternativesEnd, DeclarationsEnd, ExpressionsEnd, PatternsEnd, TypesEnd};
+ghost use Rattle.hr_edges.specs.NoTrees.{ThenAtMarginHasNoTree};
 
 /// The blocks of a tree begin behind its opening words, `let`, `of` and `where`, and nowhere else.
 pub fn blocks_begin()
@@ -10,6 +11,12 @@ pub fn blocks_begin()
 /// Where no opening word stands behind its header, the body of a module is its only block.
 pub fn bodies_alone()
     ensures { BodiesAlone }
+{}
+
+/// The first block of a module behind its body stands at the same column in all trees that begin with the same
+/// items, up to the lexeme behind the opening word.
+pub fn first_blocks_agree()
+    ensures { FirstBlocksAgree }
 {}
 
 /// A type ends with a name, `)` or `]`.
@@ -35,4 +42,9 @@ pub fn declarations_end()
 /// An alternative ends with what an expression ends with.
 pub fn alternatives_end()
     ensures { AlternativesEnd }
+{}
+
+/// The text of an `if` whose `then` stands on a line of its own, at the margin, has no tree.
+pub fn then_at_margin_has_no_tree()
+    ensures { ThenAtMarginHasNoTree }
 {}
