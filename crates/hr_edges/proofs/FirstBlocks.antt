@@ -31,7 +31,7 @@ use Rattle.hr_grammar.specs.Offside.{placed_among, lexemes_of, column_of, IsOffs
 use Rattle.hr_grammar.specs.Firsts.{Begins, kind_at, opens_part}
 use Rattle.hr_grammar.proofs.PartFirsts.{declarations_begin_lem}
 use Rattle.hr_edges.specs.Openings.{opens_block, is_opening, behind_openings, IsPlain, ArePlain, starts_of}
-use Rattle.hr_edges.specs.Laws.{body_start, IsFirst, FirstBlocksAgree}
+use Rattle.hr_edges.specs.Laws.{body_start, IsFirst, FirstBlocksAgree, FirstBlocksOfPartsAgree}
 use Rattle.hr_edges.proofs.Openings.{numbers_plain, numbers_opening, no_numbers, numbers_append}
 use Rattle.hr_edges.proofs.PlainParts.{header_front_plain}
 use Rattle.hr_edges.proofs.Bodies.{BeginsBody, body_begins}
@@ -142,11 +142,17 @@ numbers_by tree items block n yields first =
     let all : body_start tree ∷ behind_openings (body_start tree) (drop (body_start tree) items.list) ≡ first.body.start ∷ (block.start ∷ starts_of first.others) = sym (blocks_begin_lem.modules tree items yields) ∙ ap starts_of first.among in
     cc
 
-column_by : (tree : Module) (block : Span) (n : ℕ) → Offside tree → IsFirst tree block n → n ≡ column_of (drop block.start (lexemes_of tree))
-column_by tree block n offside first =
-    let well : StandsWell (spans_of tree) (lexemes_of tree) block = (subst (AllByRecursion (StandsWell (spans_of tree) (lexemes_of tree))) first.among offside).1.0 in
-    let stands : IsOffside (spans_of tree) (lexemes_of tree) block n = subst (StandsAs (spans_of tree) (lexemes_of tree) block) first.column well in
+-- a block without braces stands at the column of its first lexeme
+column_of_block : (spans : List Span) (lexemes : List Placed) (block : Span) (c : ℕ) → StandsWell spans lexemes block → block.layout ≡ Layout.Implicit c → c ≡ column_of (drop block.start lexemes)
+column_of_block spans lexemes block c well layout =
+    let stands : IsOffside spans lexemes block c = subst (StandsAs spans lexemes block) layout well in
     stands.column
+
+column_by : (tree : Module) (block : Span) (n : ℕ) → Offside tree → IsFirst tree block n → n ≡ column_of (drop block.start (lexemes_of tree))
+column_by tree block n offside first = column_of_block (spans_of tree) (lexemes_of tree) block n (subst (AllByRecursion (StandsWell (spans_of tree) (lexemes_of tree))) first.among offside).1.0 first.column
+
+take_behind : (b j k : ℕ) (xs ys : List Item) → b + j ≡ k → take k xs ≡ take k ys → take j (drop b xs) ≡ take j (drop b ys)
+take_behind b j k xs ys cut e = sym (drop-take b j xs) ∙ ap (λ i. drop b (take i xs)) cut ∙ ap (drop b) e ∙ ap (λ i. drop b (take i ys)) (sym cut) ∙ drop-take b j ys
 
 starts_same : (b c k j : ℕ) (rest others : List ℕ) (xs ys : List Item) → b ≡ c → take (suc k) xs ≡ take (suc k) ys
     → behind_openings b (drop b xs) ≡ k ∷ rest → behind_openings c (drop c ys) ≡ j ∷ others → k ≡ j
@@ -154,9 +160,7 @@ starts_same b c k j rest others xs ys same e f g =
     let above : b < k = first_above b k rest (drop b xs) f in
     let cut : b + (suc k - b) ≡ suc k = omega (arith, above) in
     let within : k ≤ b + (suc k - b) = omega (arith, above) in
-    let takes : take (suc k - b) (drop b xs) ≡ take (suc k - b) (drop b ys) =
-    sym (drop-take b (suc k - b) xs) ∙ ap (λ i. drop b (take i xs)) cut ∙ ap (drop b) e ∙ ap (λ i. drop b (take i ys)) (sym cut) ∙ drop-take b (suc k - b) ys in
-    let found = first_same b (suc k - b) k rest (drop b xs) (drop b ys) takes f within in
+    let found = first_same b (suc k - b) k rest (drop b xs) (drop b ys) (take_behind b (suc k - b) (suc k) xs ys cut e) f within in
     let both : k ∷ found.0 ≡ j ∷ others = sym found.1 ∙ ap (λ i. behind_openings i (drop i ys)) same ∙ g in
     cc
 
@@ -174,4 +178,18 @@ first_blocks_agree_lem tree other items others block next n m yields offside aga
       starts,
       column_by tree block n offside first ∙ column_same block.start 0 0 (spans_of tree) (spans_of other) origin true true (module_items tree) (module_items other) same
           ∙ ap (λ i. column_of (drop i (lexemes_of other))) starts ∙ sym (column_by other next m stands second),
+    )
+
+pub first_blocks_of_parts_agree_lem : FirstBlocksOfPartsAgree
+first_blocks_of_parts_agree_lem items others laid other is has m l n c d block next first second spans around lexemes placed well right e same =
+    let numbers : behind_openings n items ≡ block.start ∷ starts_of first.others = sym (is.starts m n) ∙ ap starts_of first.among in
+    let numbers_of : behind_openings n others ≡ next.start ∷ starts_of second.others = sym (has.starts l n) ∙ ap starts_of second.among in
+    let above : n < block.start = first_above n block.start (starts_of first.others) items numbers in
+    let within : block.start ≤ n + (block.start - n) = omega (arith, above) in
+    let found = first_same n (block.start - n) block.start (starts_of first.others) items others e numbers within in
+    let both : block.start ∷ found.0 ≡ next.start ∷ starts_of second.others = sym found.1 ∙ numbers_of in
+    let starts : block.start ≡ next.start = cc in
+    (
+      starts,
+      column_of_block spans lexemes block c well first.column ∙ same ∙ ap (λ i. column_of (drop i placed)) starts ∙ sym (column_of_block around placed next d right second.column),
     )

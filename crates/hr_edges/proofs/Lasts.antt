@@ -32,7 +32,7 @@ use Rattle.hr_grammar.specs.Types.{TyProduction}
 use Rattle.hr_grammar.specs.Patterns.{PatProduction, ArePatOperands}
 use Rattle.hr_grammar.specs.Blocks.{IsPiece, AreBraced}
 use Rattle.hr_grammar.specs.Yields.{nodes}
-use Rattle.hr_edges.specs.Lasts.{Ends, ends_type, ends_pattern, TypesEnd, PatternsEnd}
+use Rattle.hr_edges.specs.Lasts.{LastIs, Passes, Ends, ends_type, ends_pattern, TypesEnd, PatternsEnd}
 use Rattle.hr_edges.proofs.Openings.{append_nothing}
 
 abbrev pub Test : Type 0
@@ -46,18 +46,27 @@ pub text_ends : (test : Test) (class : Class) (text : List ℕ) (item : Item) �
 text_ends test class text item is t = ap₂ test is.0 is.1 ∙ t
 
 -- behind other items
+pub last_behind : (Is : Item → Type 0) (item : Item) (items : List Item) → LastIs Is items → LastIs Is (item ∷ items)
+last_behind Is item [] e = elim e [ ]
+last_behind Is item (next ∷ items) e = e
+
+pub last_after : (Is : Item → Type 0) (first items : List Item) → LastIs Is items → LastIs Is (first ++ items)
+last_after Is [] items e = e
+last_after Is (item ∷ first) items e = last_behind Is item (first ++ items) (last_after Is first items e)
+
+pub last_before_nothing : (Is : Item → Type 0) (items : List Item) → LastIs Is items → LastIs Is (items ++ [])
+last_before_nothing Is items e = subst (LastIs Is) (sym (append_nothing items)) e
+
 pub ends_behind : (test : Test) (item : Item) (items : List Item) → Ends test items → Ends test (item ∷ items)
-ends_behind test item [] e = elim e [ ]
-ends_behind test item (next ∷ items) e = e
+ends_behind test = last_behind (Passes test)
 
 pub ends_after : (test : Test) (first items : List Item) → Ends test items → Ends test (first ++ items)
-ends_after test [] items e = e
-ends_after test (item ∷ first) items e = ends_behind test item (first ++ items) (ends_after test first items e)
+ends_after test = last_after (Passes test)
 
 pub ends_before_nothing : (test : Test) (items : List Item) → Ends test items → Ends test (items ++ [])
-ends_before_nothing test items e = subst (Ends test) (sym (append_nothing items)) e
+ends_before_nothing test = last_before_nothing (Passes test)
 
-pub ends_with : (test : Test) (first : List Item) (item : Item) → test item.lexeme.class item.lexeme.text ≡ true → Ends test (first ++ item ∷ [])
+pub ends_with : (test : Test) (first : List Item) (item : Item) → Passes test item → Ends test (first ++ item ∷ [])
 ends_with test first item t = ends_after test first (item ∷ []) t
 
 pub weaker : (test wide : Test) → ((class : Class) (text : List ℕ) → test class text ≡ true → wide class text ≡ true) → (items : List Item) → Ends test items → Ends wide items

@@ -39,6 +39,7 @@ blocks_begin_lem = record {
   qualifiers = λ levels. qualifier levels (all_below levels);
   alternatives = λ levels. (all_below levels).alt;
   modules = modules_begin;
+  bodies = λ tree items yields. (body_by tree items yields).extent ∙ ap length (sym (behind_header tree items yields));
 }
 
 -- a list of spans with one start is one span

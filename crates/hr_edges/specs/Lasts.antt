@@ -10,14 +10,22 @@ use Rattle.hr_tree.specs.declared.expressions.Exp.{Exp}
 use Rattle.hr_tree.specs.declared.expressions.Decl.{Decl}
 use Rattle.hr_tree.specs.declared.expressions.Alt.{Alt}
 use Rattle.hr_tree.specs.Yields.{ty_items, pat_items, exp_items, decl_items, alt_items}
+use Rattle.hr_grammar.specs.Words.{IsText}
 use Rattle.hr_grammar.specs.Nodes.{TyPlace, PatPlace, ExpPlace, DeclPlace}
 use Rattle.hr_grammar.specs.Yields.{nodes}
 
--- there is a last item, of such a class and text
+-- there is a last item, and it is such
+abbrev pub LastIs : (Item → Type 0) → List Item → Type 0
+LastIs Is [] = ⊥
+LastIs Is (item ∷ []) = Is item
+LastIs Is (item ∷ (next ∷ items)) = LastIs Is (next ∷ items)
+
+-- the lexeme passes a test of its class and text
+abbrev pub Passes : (Class → List ℕ → Bool) → Item → Type 0
+Passes test item = test item.lexeme.class item.lexeme.text ≡ true
+
 abbrev pub Ends : (Class → List ℕ → Bool) → List Item → Type 0
-Ends test [] = ⊥
-Ends test (item ∷ []) = test item.lexeme.class item.lexeme.text ≡ true
-Ends test (item ∷ (next ∷ items)) = Ends test (next ∷ items)
+Ends test = LastIs (Passes test)
 
 abbrev pub closing_brackets : List (List ℕ)
 closing_brackets = codes ")" ∷ codes "]" ∷ []
@@ -102,3 +110,16 @@ DeclarationsEnd = (levels : ℕ) (place : DeclPlace) (decl : Decl) → (nodes le
 
 abbrev pub AlternativesEnd : Type 0
 AlternativesEnd = (levels : ℕ) (alt : Alt) → (nodes levels).alt alt → Ends ends_part (alt_items alt)
+
+-- each lexeme that passes a test ends some tree at the place, on some level: no test is too wide
+pub record LastsArePossible : Type 0 where
+  pub types : (place : TyPlace) (class : Class) (text : List ℕ) → ends_type class text ≡ true
+      → (levels : ℕ) × (ty : Ty) × (nodes levels).ty place ty × LastIs (IsText class text) (ty_items ty)
+  pub patterns : (place : PatPlace) (class : Class) (text : List ℕ) → ends_pattern class text ≡ true
+      → (levels : ℕ) × (pat : Pat) × (nodes levels).pat place pat × LastIs (IsText class text) (pat_items pat)
+  pub expressions : (free : Bool) (place : ExpPlace) (class : Class) (text : List ℕ) → ends_expression place class text ≡ true
+      → (levels : ℕ) × (exp : Exp) × (nodes levels).exp free place exp × LastIs (IsText class text) (exp_items exp)
+  pub declarations : (place : DeclPlace) (class : Class) (text : List ℕ) → ends_declaration place class text ≡ true
+      → (levels : ℕ) × (decl : Decl) × (nodes levels).decl place decl × LastIs (IsText class text) (decl_items decl)
+  pub alternatives : (class : Class) (text : List ℕ) → ends_part class text ≡ true
+      → (levels : ℕ) × (alt : Alt) × (nodes levels).alt alt × LastIs (IsText class text) (alt_items alt)

@@ -1,5 +1,5 @@
 //! Laws about the edges of trees and of their blocks.
-ghost use Rattle.hr_edges.specs.Laws.{BlocksBegin, BodiesAlone, FirstBlocksAgree};
+ghost use Rattle.hr_edges.specs.Laws.{BlocksBegin, BodiesAlone, FirstBlocksAgree, FirstBlocksOfPartsAgree};
 ghost use Rattle.hr_edges.specs.Lasts.{AlternativesEnd, DeclarationsEnd, ExpressionsEnd, PatternsEnd, TypesEnd};
 ghost use Rattle.hr_edges.specs.NoTrees.{ThenAtMarginHasNoTree};
 
@@ -17,6 +17,11 @@ pub fn bodies_alone()
 /// items, up to the lexeme behind the opening word.
 pub fn first_blocks_agree()
     ensures { FirstBlocksAgree }
+{}
+
+/// So does the first block of two expressions, declarations, qualifiers or alternatives.
+pub fn first_blocks_of_parts_agree()
+    ensures { FirstBlocksOfPartsAgree }
 {}
 
 /// A type ends with a name, `)` or `]`.
