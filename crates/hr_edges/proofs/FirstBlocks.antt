@@ -188,8 +188,7 @@ first_blocks_of_parts_agree_lem items others laid other is has m l n c d block n
     let within : block.start ≤ n + (block.start - n) = omega (arith, above) in
     let found = first_same n (block.start - n) block.start (starts_of first.others) items others e numbers within in
     let both : block.start ∷ found.0 ≡ next.start ∷ starts_of second.others = sym found.1 ∙ numbers_of in
-    let starts : block.start ≡ next.start = cc in
-    (
+    let starts : block.start ≡ next.start = cc in (
       starts,
       column_of_block spans lexemes block c well first.column ∙ same ∙ ap (λ i. column_of (drop i placed)) starts ∙ sym (column_of_block around placed next d right second.column),
     )

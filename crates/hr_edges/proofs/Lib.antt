@@ -9,3 +9,4 @@ pub mod PartLasts
 pub mod Bodies
 pub mod FirstBlocks
 pub mod NoTrees
+pub mod LastsPossible

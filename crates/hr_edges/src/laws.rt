@@ -1,6 +1,6 @@
 //! Laws about the edges of trees and of their blocks.
 ghost use Rattle.hr_edges.specs.Laws.{BlocksBegin, BodiesAlone, FirstBlocksAgree, FirstBlocksOfPartsAgree};
-ghost use Rattle.hr_edges.specs.Lasts.{AlternativesEnd, DeclarationsEnd, ExpressionsEnd, PatternsEnd, TypesEnd};
+ghost use Rattle.hr_edges.specs.Lasts.{AlternativesEnd, DeclarationsEnd, ExpressionsEnd, LastsArePossible, PatternsEnd, TypesEnd};
 ghost use Rattle.hr_edges.specs.NoTrees.{ThenAtMarginHasNoTree};
 
 /// The blocks of a tree begin behind its opening words, `let`, `of` and `where`, and nowhere else.
@@ -47,6 +47,11 @@ pub fn declarations_end()
 /// An alternative ends with what an expression ends with.
 pub fn alternatives_end()
     ensures { AlternativesEnd }
+{}
+
+/// Each of these lexemes ends some type, pattern, expression, declaration or alternative, at each place.
+pub fn lasts_are_possible()
+    ensures { LastsArePossible }
 {}
 
 /// The text of an `if` whose `then` stands on a line of its own, at the margin, has no tree.
