@@ -1,5 +1,5 @@
 -- The pieces of a module's body: each begins with a `;` or with what begins a part, and stretches over its lexemes.
-use Rattle.std.proofs.Common.{◌≡◌, ◌⊎◌, ◌≤◌, ℕ, zero, suc, ◌+◌, ◌-◌, ◌==◌, ◌||◌, Bool, true, false, List, [], ◌∷◌, ◌++◌, length, map, drop, refl, sym, ap, ap₂, ◌∙◌, subst, inl, inr, arith}
+use Rattle.std.proofs.Common.{◌≡◌, ◌⊎◌, ◌≤◌, ℕ, zero, suc, ◌+◌, ◌-◌, ◌==◌, Bool, true, List, [], ◌∷◌, ◌++◌, length, map, drop, refl, sym, ap, ap₂, ◌∙◌, subst, inl, inr, arith}
 use Rattle.std.specs.List.{AllByRecursion, flat_map, list_any}
 use Rattle.std.proofs.Math.Seq.{drop-append-add}
 use Rattle.std.proofs.lemmas.Bool.{eqb-true}
@@ -19,14 +19,13 @@ use Rattle.hr_tree.specs.Yields.{decl_items}
 use Rattle.hr_grammar.specs.Words.{IsText}
 use Rattle.hr_grammar.specs.Nodes.{DeclPlace}
 use Rattle.hr_grammar.specs.Blocks.{IsPiece, AreBraced}
-use Rattle.hr_grammar.specs.Yields.{nodes, AreDeclarationsOver}
+use Rattle.hr_grammar.specs.Yields.{nodes}
 use Rattle.hr_grammar.specs.Spans.{stretch_length, stretch_of, piece_of}
 use Rattle.hr_grammar.specs.Offside.{begins}
 use Rattle.hr_grammar.specs.Firsts.{Begins, kind_at, opens_part}
 use Rattle.hr_grammar.proofs.Firsts.{of_text}
 use Rattle.hr_grammar.proofs.PartFirsts.{either_true, declarations_begin_lem}
 use Rattle.hr_edges.proofs.Openings.{append_nothing}
-use Rattle.hr_edges.proofs.Stretches.{Below}
 use Rattle.hr_edges.proofs.PartStretches.{all_below}
 
 -- what opens a part begins one

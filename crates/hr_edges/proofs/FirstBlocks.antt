@@ -1,10 +1,9 @@
 -- Trees that begin with the same items have their first blocks at the same number and column.
-use Rattle.std.proofs.Common.{◌≡◌, ◌⊎◌, ◌≤◌, ◌<◌, ℕ, zero, suc, ◌+◌, ◌-◌, Bool, true, false, List, [], ◌∷◌, ◌++◌, length, map, take, drop, Option, Some, None, refl, sym, ap, ap₂, ◌∙◌, subst, inl, inr, arith}
+use Rattle.std.proofs.Common.{◌≡◌, ◌≤◌, ◌<◌, ℕ, zero, suc, ◌+◌, ◌-◌, Bool, true, false, List, [], ◌∷◌, ◌++◌, length, take, drop, Option, Some, None, refl, sym, ap, ap₂, ◌∙◌, subst, inl, inr, arith}
 use Rattle.std.specs.List.{AllByRecursion}
 use Rattle.std.proofs.lemmas.List.{length-append, drop-take}
 use lib.Chars.{codes}
 use Rattle.hr_base.specs.declared.place.Pos.{Pos}
-use Rattle.hr_base.specs.declared.lexeme.Class.{Class}
 use Rattle.hr_base.specs.declared.lexeme.Item.{Item}
 use Rattle.hr_base.specs.declared.lexeme.Items.{Items}
 use Rattle.hr_rules.specs.declared.block.BlockKind.{BlockKind}
@@ -13,29 +12,25 @@ use Rattle.hr_rules.specs.Positions.{origin, behind}
 use Rattle.hr_rules.specs.declared.role.Role.{Role}
 use Rattle.hr_rules.specs.CanFollow.{begins_part}
 use Rattle.hr_rules.specs.Roles.{role_by, role_of}
-use Rattle.hr_rules.specs.Blocks.{placed_from, placed_of}
+use Rattle.hr_rules.specs.Blocks.{placed_from}
 use Rattle.hr_tree.specs.declared.lists.Layout.{Layout}
-use Rattle.hr_tree.specs.declared.lists.Piece.{Piece}
 use Rattle.hr_tree.specs.declared.lists.Block.{Block}
 use Rattle.hr_tree.specs.declared.expressions.Decl.{Decl}
 use Rattle.hr_tree.specs.declared.modules.Header.{Header}
 use Rattle.hr_tree.specs.declared.modules.Module.{Module}
-use Rattle.hr_tree.specs.Lists.{block_items, piece_items}
+use Rattle.hr_tree.specs.Lists.{block_items}
 use Rattle.hr_tree.specs.Yields.{decl_items, header_items, module_items, maybe_exports}
 use Rattle.hr_grammar.specs.Words.{IsWord}
 use Rattle.hr_grammar.specs.Nodes.{DeclPlace}
-use Rattle.hr_grammar.specs.Blocks.{IsPiece, AreBraced}
-use Rattle.hr_grammar.specs.Yields.{nodes, IsHeader, AreDeclarationsOver, DeepYields}
+use Rattle.hr_grammar.specs.Yields.{nodes, IsHeader, DeepYields}
 use Rattle.hr_grammar.specs.Spans.{Span, spans_of}
 use Rattle.hr_grammar.specs.Offside.{placed_among, lexemes_of, column_of, IsOffside, StandsAs, StandsWell, Offside}
-use Rattle.hr_grammar.specs.Firsts.{Begins, kind_at, opens_part}
-use Rattle.hr_grammar.proofs.PartFirsts.{declarations_begin_lem}
-use Rattle.hr_edges.specs.Openings.{opens_block, is_opening, behind_openings, IsPlain, ArePlain, starts_of}
+use Rattle.hr_edges.specs.Openings.{opens_block, is_opening, behind_openings, starts_of}
 use Rattle.hr_edges.specs.Laws.{body_start, IsFirst, FirstBlocksAgree, FirstBlocksOfPartsAgree}
 use Rattle.hr_edges.proofs.Openings.{numbers_plain, numbers_opening, no_numbers, numbers_append}
 use Rattle.hr_edges.proofs.PlainParts.{header_front_plain}
 use Rattle.hr_edges.proofs.Bodies.{BeginsBody, body_begins}
-use Rattle.hr_edges.proofs.Modules.{behind_header, blocks_begin_lem}
+use Rattle.hr_edges.proofs.Modules.{blocks_begin_lem}
 
 -- the column of a lexeme is a matter of the items up to it, whatever is marked
 column_same : (k n m : ℕ) (spans others : List Span) (pos : Pos) (first next : Bool) (xs ys : List Item) → take (suc k) xs ≡ take (suc k) ys

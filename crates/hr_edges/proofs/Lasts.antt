@@ -1,5 +1,5 @@
 -- Which lexemes types and patterns end with, and what lists and blocks end with.
-use Rattle.std.proofs.Common.{◌≡◌, ◌≢◌, ◌⊎◌, ℕ, zero, suc, ◌||◌, Bool, true, false, List, [], ◌∷◌, ◌++◌, length, Option, Some, None, refl, sym, ap, ap₂, ◌∙◌, subst, inl, inr}
+use Rattle.std.proofs.Common.{◌≡◌, ◌≢◌, ◌⊎◌, ℕ, zero, suc, Bool, true, List, [], ◌∷◌, ◌++◌, Option, None, refl, sym, ap, ap₂, ◌∙◌, subst, inl, inr}
 use Rattle.std.specs.List.{AllByRecursion, flat_map}
 use Rattle.std.proofs.lemmas.List.Folds.{flat_map-map}
 use lib.Chars.{codes}
@@ -7,12 +7,10 @@ use Rattle.hr_base.specs.declared.lexeme.Class.{Class}
 use Rattle.hr_base.specs.declared.lexeme.Item.{Item}
 use Rattle.hr_tree.specs.declared.names.Variable.{Variable as Named}
 use Rattle.hr_tree.specs.declared.names.Constructor.{Constructor as Built}
-use Rattle.hr_tree.specs.declared.names.Operator.{Operator}
 use Rattle.hr_tree.specs.declared.lists.Listed.{Listed}
 use Rattle.hr_tree.specs.declared.lists.Operand.{Operand}
 use Rattle.hr_tree.specs.declared.lists.Layout.{Layout}
 use Rattle.hr_tree.specs.declared.lists.Piece.{Piece}
-use Rattle.hr_tree.specs.declared.lists.Block.{Block}
 use Rattle.hr_tree.specs.declared.types.Ty.{Ty, out-Ty, roll-Ty}
 use Rattle.hr_tree.specs.declared.types.Ty.TheOpen.{Ty-F}
 use Rattle.hr_tree.specs.declared.types.Ty.TheFolds.{fold-roll-Ty}
@@ -21,10 +19,10 @@ use Rattle.hr_tree.specs.declared.patterns.Pat.{Pat, out-Pat, roll-Pat}
 use Rattle.hr_tree.specs.declared.patterns.Pat.TheOpen.{Pat-F}
 use Rattle.hr_tree.specs.declared.patterns.Pat.TheFolds.{fold-roll-Pat}
 use Rattle.hr_tree.specs.declared.patterns.Pat.TheViews.{roll-out-Pat}
-use Rattle.hr_tree.specs.Names.{constructor_items, variable_items, operator_items, maybe_item, maybe_operator}
+use Rattle.hr_tree.specs.Names.{constructor_items, variable_items, maybe_item, maybe_operator}
 use Rattle.hr_tree.specs.Lists.{listed_items, operand_items, piece_items, block_items}
 use Rattle.hr_tree.specs.Yields.{done, ty_layer, ty_items, pat_layer, pat_items}
-use Rattle.hr_grammar.specs.Words.{IsOf, IsText, IsLiteral, IsSemicolon}
+use Rattle.hr_grammar.specs.Words.{IsOf, IsText, IsLiteral}
 use Rattle.hr_grammar.specs.Spelled.{IsTypeConstructor, IsConstructor, IsVariable}
 use Rattle.hr_grammar.specs.Separated.{AreSeparated}
 use Rattle.hr_grammar.specs.Nodes.{TyPlace, PatPlace}

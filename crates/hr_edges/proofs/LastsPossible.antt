@@ -1,6 +1,5 @@
 -- Each lexeme that a type, a pattern, an expression, a declaration or an alternative may end with ends one.
-use Rattle.std.proofs.Common.{◌≡◌, ◌≢◌, ◌⊎◌, ℕ, zero, suc, ◌||◌, Bool, true, false, List, [], ◌∷◌, ◌++◌, Option, Some, None, refl, sym, ap, ap₂, ◌∙◌, subst, inl, inr}
-use Rattle.std.specs.List.{AllByRecursion}
+use Rattle.std.proofs.Common.{◌≡◌, ◌⊎◌, ℕ, zero, suc, Bool, true, List, [], ◌∷◌, ◌++◌, Option, Some, None, refl, sym, ap, ◌∙◌, subst, inl, inr}
 use lib.Chars.{codes}
 use Rattle.hr_base.specs.declared.lexeme.Class.{Class}
 use Rattle.hr_base.specs.declared.lexeme.Item.{Item}
@@ -9,35 +8,31 @@ use Rattle.hr_tree.specs.declared.names.Variable.{Variable as Named}
 use Rattle.hr_tree.specs.declared.names.Constructor.{Constructor as Built}
 use Rattle.hr_tree.specs.declared.names.Operator.{Operator}
 use Rattle.hr_tree.specs.declared.lists.Layout.{Layout}
-use Rattle.hr_tree.specs.declared.lists.Listed.{Listed}
 use Rattle.hr_tree.specs.declared.lists.Piece.{Piece}
 use Rattle.hr_tree.specs.declared.lists.Block.{Block}
 use Rattle.hr_tree.specs.declared.declarations.Body.{Body}
-use Rattle.hr_tree.specs.declared.declarations.Where.{Where}
-use Rattle.hr_tree.specs.declared.modules.NameList.{NameList}
-use Rattle.hr_tree.specs.declared.modules.Import.{Import}
 use Rattle.hr_tree.specs.declared.modules.ImportNames.{ImportNames}
-use Rattle.hr_tree.specs.declared.types.Ty.{Ty, out-Ty, roll-Ty}
+use Rattle.hr_tree.specs.declared.types.Ty.{Ty, roll-Ty}
 use Rattle.hr_tree.specs.declared.types.Ty.TheOpen.{Ty-F}
 use Rattle.hr_tree.specs.declared.types.Ty.TheFolds.{fold-roll-Ty}
 use Rattle.hr_tree.specs.declared.types.Ty.TheViews.{out-roll-Ty}
-use Rattle.hr_tree.specs.declared.patterns.Pat.{Pat, out-Pat, roll-Pat}
+use Rattle.hr_tree.specs.declared.patterns.Pat.{Pat, roll-Pat}
 use Rattle.hr_tree.specs.declared.patterns.Pat.TheOpen.{Pat-F}
 use Rattle.hr_tree.specs.declared.patterns.Pat.TheFolds.{fold-roll-Pat}
 use Rattle.hr_tree.specs.declared.patterns.Pat.TheViews.{out-roll-Pat}
-use Rattle.hr_tree.specs.declared.expressions.Exp.{Exp, out-Exp, roll-Exp}
-use Rattle.hr_tree.specs.declared.expressions.Decl.{Decl, out-Decl, roll-Decl}
-use Rattle.hr_tree.specs.declared.expressions.Alt.{Alt, out-Alt, roll-Alt}
+use Rattle.hr_tree.specs.declared.expressions.Exp.{Exp, roll-Exp}
+use Rattle.hr_tree.specs.declared.expressions.Decl.{Decl, roll-Decl}
+use Rattle.hr_tree.specs.declared.expressions.Alt.{Alt, roll-Alt}
 use Rattle.hr_tree.specs.declared.expressions.Qualifier.{Qualifier}
 use Rattle.hr_tree.specs.declared.expressions.Decl.TheOpen.{Exp-F, Decl-F}
 use Rattle.hr_tree.specs.declared.expressions.Decl.TheFolds.{fold-roll-Exp, fold-roll-Decl}
-use Rattle.hr_tree.specs.declared.expressions.Decl.TheViews.{out-roll-Exp, out-roll-Decl, out-roll-Alt, rolls-Case, rolls-Binding}
-use Rattle.hr_tree.specs.Names.{constructor_items, variable_items, operator_items}
-use Rattle.hr_tree.specs.Lists.{block_items, body_items, where_items}
+use Rattle.hr_tree.specs.declared.expressions.Decl.TheViews.{out-roll-Exp, out-roll-Decl, rolls-Case, rolls-Binding}
+use Rattle.hr_tree.specs.Names.{constructor_items, operator_items}
+use Rattle.hr_tree.specs.Lists.{block_items}
 use Rattle.hr_tree.specs.Yields.{maybe_import_names, ty_layer, ty_items, pat_layer, pat_items, exp_layer, decl_layer, qualifier_layer, alt_layer, exp_items, decl_items, alt_items}
 use Rattle.hr_tree.proofs.ExpressionYields.{exp_case, decl_binding, alt_whole}
-use Rattle.hr_grammar.specs.Words.{IsOf, IsText, IsLiteral}
-use Rattle.hr_grammar.specs.Spelled.{IsTypeConstructor, IsConstructor, IsVariable, IsNamedVariable, IsOwnOperator}
+use Rattle.hr_grammar.specs.Words.{IsText, IsLiteral}
+use Rattle.hr_grammar.specs.Spelled.{IsTypeConstructor, IsConstructor, IsNamedVariable, IsOwnOperator}
 use Rattle.hr_grammar.specs.Nodes.{TyPlace, PatPlace, ExpPlace, DeclPlace}
 use Rattle.hr_grammar.specs.Types.{TyProduction}
 use Rattle.hr_grammar.specs.Patterns.{PatProduction}

@@ -1,19 +1,18 @@
 -- The blocks of a module begin where its body does and behind the opening words of its body.
-use Rattle.std.proofs.Common.{◌≡◌, ℕ, zero, suc, ◌+◌, List, [], ◌∷◌, ◌++◌, length, map, drop, refl, sym, ap, ◌∙◌, subst, arith}
+use Rattle.std.proofs.Common.{◌≡◌, ℕ, ◌+◌, List, [], ◌∷◌, length, map, drop, refl, sym, ap, ◌∙◌, arith}
 use Rattle.std.proofs.Math.Seq.{drop-append_seam}
-use Rattle.hr_base.specs.declared.lexeme.Item.{Item}
 use Rattle.hr_base.specs.declared.lexeme.Items.{Items}
 use Rattle.hr_rules.specs.declared.block.BlockKind.{BlockKind}
 use Rattle.hr_tree.specs.declared.modules.Module.{Module}
 use Rattle.hr_tree.specs.Lists.{block_items}
-use Rattle.hr_tree.specs.Yields.{decl_items, header_items, module_items}
+use Rattle.hr_tree.specs.Yields.{decl_items, header_items}
 use Rattle.hr_grammar.specs.Nodes.{DeclPlace}
 use Rattle.hr_grammar.specs.Yields.{DeepYields}
 use Rattle.hr_grammar.specs.Spans.{Laid, Span, block_laid, piece_of, spans_of}
-use Rattle.hr_edges.specs.Openings.{behind_openings, ArePlain, starts_of}
+use Rattle.hr_edges.specs.Openings.{behind_openings, starts_of}
 use Rattle.hr_edges.specs.Laws.{body_start, BlocksBegin, BodiesAlone}
 use Rattle.hr_edges.proofs.Openings.{IsBlockBy, no_numbers}
-use Rattle.hr_edges.proofs.Stretches.{Below, qualifier}
+use Rattle.hr_edges.proofs.Stretches.{qualifier}
 use Rattle.hr_edges.proofs.PartStretches.{all_below}
 
 abbrev pub body_laid_of : Module → Laid

@@ -1,14 +1,12 @@
 -- The text of an `if` whose `then` stands at the margin has no tree: the body is its only block, and `then` would
 -- begin a piece of it.
-use Rattle.std.proofs.Common.{◌≡◌, ◌⊎◌, ◌<◌, ℕ, zero, suc, ◌+◌, ◌==◌, Bool, true, false, List, [], ◌∷◌, ◌++◌, length, map, drop, Option, Some, None, refl, sym, ap, ap₂, ◌∙◌, subst, inl, inr, arith}
-use Rattle.std.specs.List.{AllByRecursion, flat_map, list_any}
+use Rattle.std.proofs.Common.{◌≡◌, ◌⊎◌, ◌<◌, ℕ, ◌==◌, true, false, List, [], ◌∷◌, length, map, drop, Option, Some, None, refl, sym, ap, ◌∙◌, subst, inl, inr, arith}
+use Rattle.std.specs.List.{flat_map, list_any}
 use lib.Chars.{codes}
 use Rattle.hr_base.specs.declared.lexeme.Class.{Class}
 use Rattle.hr_base.specs.declared.lexeme.Item.{Item}
 use Rattle.hr_base.specs.declared.lexeme.Items.{Items}
-use Rattle.hr_rules.specs.declared.role.Role.{Role}
 use Rattle.hr_rules.specs.declared.block.BlockKind.{BlockKind}
-use Rattle.hr_rules.specs.declared.block.Placed.{Placed}
 use Rattle.hr_rules.specs.Blocks.{placed_of}
 use Rattle.hr_rules.specs.CanFollow.{begins_part}
 use Rattle.hr_rules.specs.Roles.{role_of}
@@ -19,14 +17,11 @@ use Rattle.hr_tree.specs.declared.modules.Header.{Header}
 use Rattle.hr_tree.specs.declared.modules.Module.{Module}
 use Rattle.hr_tree.specs.Lists.{piece_items}
 use Rattle.hr_tree.specs.Yields.{decl_items, module_items}
-use Rattle.hr_grammar.specs.Nodes.{DeclPlace}
-use Rattle.hr_grammar.specs.Yields.{nodes, IsHeader, DeepYields}
-use Rattle.hr_grammar.specs.Blocks.{AreBraced}
+use Rattle.hr_grammar.specs.Yields.{DeepYields}
 use Rattle.hr_grammar.specs.Spans.{Span, last_ending, stretch_of, piece_of, spans_of}
-use Rattle.hr_grammar.specs.Offside.{placed_among, lexemes_of, column_of, begins, is_braced, StandsRight, AllStandRight, IsOffside, StandsWell, Offside}
+use Rattle.hr_grammar.specs.Offside.{placed_among, lexemes_of, column_of, begins, is_braced, AllStandRight, IsOffside, Offside}
 use Rattle.hr_grammar.specs.Worked.{item}
 use Rattle.hr_edges.specs.NoTrees.{then_at_margin, ThenAtMarginHasNoTree}
-use Rattle.hr_edges.specs.Openings.{ArePlain}
 use Rattle.hr_edges.proofs.Openings.{append_nothing}
 use Rattle.hr_edges.proofs.Bodies.{body_sound, first_of_piece, braced}
 use Rattle.hr_edges.proofs.Modules.{body_laid_of, body_by, bodies_alone_lem}

@@ -1,6 +1,6 @@
 -- Stretches of lexemes, one behind another, in lists and in blocks: they have as many lexemes as there are items,
 -- and their blocks begin behind the opening words, if those of their parts do.
-use Rattle.std.proofs.Common.{◌≡◌, ℕ, zero, suc, ◌+◌, Bool, true, false, if◌then◌else◌, List, [], ◌∷◌, ◌++◌, length, map, Option, Some, None, refl, sym, ap, ap₂, ◌∙◌, subst, arith}
+use Rattle.std.proofs.Common.{◌≡◌, ℕ, suc, ◌+◌, Bool, true, false, if◌then◌else◌, List, [], ◌∷◌, ◌++◌, length, map, Option, Some, None, refl, sym, ap, ap₂, ◌∙◌, subst, arith}
 use Rattle.std.specs.List.{AllByRecursion, flat_map}
 use Rattle.std.proofs.lemmas.List.{length-append, map-append}
 use lib.Chars.{codes}
@@ -17,7 +17,7 @@ use Rattle.hr_tree.specs.Lists.{listed_items, piece_items, block_items, opening_
 use Rattle.hr_grammar.specs.Words.{IsText, IsSemicolon}
 use Rattle.hr_grammar.specs.Separated.{AreSeparated, There}
 use Rattle.hr_grammar.specs.Blocks.{IsPiece, AreBraced}
-use Rattle.hr_grammar.specs.Spans.{Laid, Span, bare, one, row, ending_as, ◌▷◌, listed_laid, piece_laid, stretch_of, column_inside, last_ending, block_laid}
+use Rattle.hr_grammar.specs.Spans.{Laid, Span, bare, one, row, ending_as, ◌▷◌, listed_laid, piece_laid, column_inside, block_laid}
 use Rattle.hr_edges.specs.Openings.{opens_block, is_opening, behind_openings, IsPlain, ArePlain, starts_of, IsLaidBy}
 
 pub append_nothing : {T : Type 0} (xs : List T) → xs ++ [] ≡ xs

@@ -1,16 +1,15 @@
 -- Which lexemes expressions, declarations and alternatives end with.
-use Rattle.std.proofs.Common.{◌≡◌, ◌≢◌, ◌⊎◌, ℕ, zero, suc, ◌||◌, Bool, true, false, List, [], ◌∷◌, ◌++◌, length, Option, Some, None, refl, sym, ap, ap₂, ◌∙◌, subst, inl, inr}
-use Rattle.std.specs.List.{AllByRecursion, flat_map}
+use Rattle.std.proofs.Common.{◌≡◌, ℕ, zero, suc, ◌||◌, Bool, true, false, List, [], ◌∷◌, ◌++◌, Option, Some, None, refl, sym, ap, ◌∙◌, subst, inl, inr}
+use Rattle.std.specs.List.{flat_map}
 use lib.Chars.{codes}
 use Rattle.hr_base.specs.declared.lexeme.Class.{Class}
 use Rattle.hr_base.specs.declared.lexeme.Item.{Item}
-use Rattle.hr_rules.specs.Names.{is_one_of, is_spelled}
+use Rattle.hr_rules.specs.Names.{is_spelled}
 use Rattle.hr_tree.specs.declared.names.Variable.{Variable as Named}
 use Rattle.hr_tree.specs.declared.names.Constructor.{Constructor as Built}
 use Rattle.hr_tree.specs.declared.names.Operator.{Operator}
 use Rattle.hr_tree.specs.declared.types.Ty.{Ty}
 use Rattle.hr_tree.specs.declared.lists.Operand.{Operand}
-use Rattle.hr_tree.specs.declared.lists.Listed.{Listed}
 use Rattle.hr_tree.specs.declared.lists.Block.{Block}
 use Rattle.hr_tree.specs.declared.declarations.Construction.{Construction}
 use Rattle.hr_tree.specs.declared.declarations.Body.{Body}
@@ -27,21 +26,19 @@ use Rattle.hr_tree.specs.declared.modules.NameList.{NameList}
 use Rattle.hr_tree.specs.declared.modules.Import.{Import}
 use Rattle.hr_tree.specs.declared.modules.Alias.{Alias}
 use Rattle.hr_tree.specs.declared.modules.ImportNames.{ImportNames}
-use Rattle.hr_tree.specs.declared.modules.Imported.{Imported}
-use Rattle.hr_tree.specs.Names.{constructor_items, variable_items, operator_items, maybe_item, maybe_operator}
-use Rattle.hr_tree.specs.Lists.{listed_items, operand_items, piece_items, block_items, guarded_items, body_items, where_items}
+use Rattle.hr_tree.specs.Names.{constructor_items, variable_items, operator_items, maybe_item}
+use Rattle.hr_tree.specs.Lists.{listed_items, operand_items, block_items, guarded_items, body_items, where_items}
 use Rattle.hr_tree.specs.Yields.{ty_items, pat_items, type_head_items, construction_items, left_side_items, imported_items, name_list_items, maybe_alias, maybe_import_names, import_items, exp_layer, decl_layer, qualifier_layer, alt_layer, exp_items, decl_items, qualifier_items, alt_items}
 use Rattle.hr_tree.proofs.ExpressionYields.{exp_group, exp_tuple, exp_list, exp_from, exp_from_then, exp_from_to, exp_from_then_to, exp_comprehension, exp_left_section, exp_right_section, exp_apply, exp_infix, exp_annotated, exp_lambda, exp_let, exp_if, exp_case, decl_equation, decl_binding, alt_whole}
-use Rattle.hr_grammar.specs.Words.{IsOf, IsText, IsBar, IsComma, IsEquals, IsArrow, IsLiteral}
-use Rattle.hr_grammar.specs.Spelled.{IsConstructor, IsNamedVariable, IsOwnConstructor, IsOwnOperator}
-use Rattle.hr_grammar.specs.Separated.{AreSeparated}
-use Rattle.hr_grammar.specs.Nodes.{TyPlace, PatPlace, ExpPlace, DeclPlace}
+use Rattle.hr_grammar.specs.Words.{IsOf, IsBar, IsComma, IsEquals, IsArrow}
+use Rattle.hr_grammar.specs.Spelled.{IsNamedVariable, IsOwnConstructor, IsOwnOperator}
+use Rattle.hr_grammar.specs.Nodes.{TyPlace, ExpPlace, DeclPlace}
 use Rattle.hr_grammar.specs.Expressions.{ExpProduction, AreExpOperands, last_operand, takes_operand, takes_open, takes_infix, takes_annotation}
 use Rattle.hr_grammar.specs.Declarations.{DeclProduction, IsAltOver, IsConstructionOver, IsNewConstructionOver, IsGuardedOver, IsBodyOver, IsWhereOver, takes_import, takes_top, takes_local}
 use Rattle.hr_grammar.specs.Imports.{IsNameList, IsImported, IsAlias, AreImportNames, IsImport}
-use Rattle.hr_grammar.specs.Yields.{nodes, AreDeclarationsOver, AreAlternativesOver}
+use Rattle.hr_grammar.specs.Yields.{nodes}
 use Rattle.hr_edges.specs.Lasts.{Ends, ends_type, ends_atom, ends_part, ends_expression, ends_import, ends_declaration, ExpressionsEnd, DeclarationsEnd, AlternativesEnd}
-use Rattle.hr_edges.proofs.Lasts.{Test, Closes, class_ends, text_ends, ends_behind, ends_after, ends_before_nothing, ends_with, weaker, all_end, separated_end, last_operand_ends, block_ends, right_paren, right_square, constructor_ends, variable_ends, literal_ends, types_end_lem}
+use Rattle.hr_edges.proofs.Lasts.{Closes, class_ends, text_ends, ends_behind, ends_after, ends_before_nothing, ends_with, weaker, all_end, separated_end, last_operand_ends, block_ends, right_paren, right_square, constructor_ends, literal_ends, types_end_lem}
 
 atoms_close : Closes ends_atom
 atoms_close = record { paren = refl; square = refl; variables = λ text. refl; constructors = λ text. refl; qualified = λ text. refl }

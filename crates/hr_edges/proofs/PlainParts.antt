@@ -1,34 +1,19 @@
 -- No opening word stands in operators, heads of types, left sides, imports and the first part of a header.
-use Rattle.std.proofs.Common.{◌≡◌, ◌⊎◌, ℕ, zero, suc, ◌||◌, Bool, true, false, List, [], ◌∷◌, ◌++◌, Option, Some, None, refl, sym, ap, ◌∙◌, subst, inl, inr, true≢false}
+use Rattle.std.proofs.Common.{◌≡◌, ◌⊎◌, ℕ, ◌||◌, true, false, List, [], ◌∷◌, ◌++◌, Option, Some, None, refl, ap, ◌∙◌, inl, inr}
 use Rattle.std.specs.List.{AllByRecursion, flat_map}
 use lib.Chars.{codes}
 use Rattle.hr_base.specs.declared.lexeme.Class.{Class}
 use Rattle.hr_base.specs.declared.lexeme.Item.{Item}
-use Rattle.hr_base.specs.declared.lexeme.Items.{Items}
 use Rattle.hr_rules.specs.Names.{is_one_of, is_spelled}
 use Rattle.hr_tree.specs.declared.names.Variable.{Variable as Named}
 use Rattle.hr_tree.specs.declared.names.Constructor.{Constructor as Built}
 use Rattle.hr_tree.specs.declared.names.Operator.{Operator}
 use Rattle.hr_tree.specs.declared.lists.Listed.{Listed}
-use Rattle.hr_tree.specs.declared.lists.Operand.{Operand}
-use Rattle.hr_tree.specs.declared.lists.Layout.{Layout}
-use Rattle.hr_tree.specs.declared.lists.Piece.{Piece}
-use Rattle.hr_tree.specs.declared.lists.Block.{Block}
 use Rattle.hr_tree.specs.declared.declarations.TypeHead.{TypeHead}
 use Rattle.hr_tree.specs.declared.declarations.Construction.{Construction}
 use Rattle.hr_tree.specs.declared.declarations.LeftSide.{LeftSide}
 use Rattle.hr_tree.specs.declared.declarations.LeftHead.{LeftHead}
 use Rattle.hr_tree.specs.declared.declarations.Closed.{Closed}
-use Rattle.hr_tree.specs.declared.declarations.Body.{Body}
-use Rattle.hr_tree.specs.declared.declarations.Guarded.{Guarded}
-use Rattle.hr_tree.specs.declared.declarations.Where.{Where}
-use Rattle.hr_tree.specs.declared.expressions.Exp.{Exp, out-Exp, roll-Exp}
-use Rattle.hr_tree.specs.declared.expressions.Decl.{Decl, out-Decl, roll-Decl}
-use Rattle.hr_tree.specs.declared.expressions.Alt.{Alt, out-Alt}
-use Rattle.hr_tree.specs.declared.expressions.Qualifier.{Qualifier, out-Qualifier, roll-Qualifier}
-use Rattle.hr_tree.specs.declared.expressions.Decl.TheOpen.{Exp-F, Decl-F, Qualifier-F}
-use Rattle.hr_tree.specs.declared.expressions.Decl.TheFolds.{fold-roll-Exp, fold-roll-Decl}
-use Rattle.hr_tree.specs.declared.expressions.Decl.TheViews.{roll-out-Exp, roll-out-Decl, roll-out-Qualifier, rolls-Group, rolls-Tuple, rolls-List, rolls-From, rolls-FromThen, rolls-FromTo, rolls-FromThenTo, rolls-Comprehension, rolls-LeftSection, rolls-RightSection, rolls-Apply, rolls-Infix, rolls-Annotated, rolls-Lambda, rolls-Let, rolls-If, rolls-Case, rolls-Equation, rolls-Binding, rolls-Generator, rolls-Locals, rolls-Test}
 use Rattle.hr_tree.specs.declared.modules.NameList.{NameList}
 use Rattle.hr_tree.specs.declared.modules.Export.{Export}
 use Rattle.hr_tree.specs.declared.modules.Members.{Members}
@@ -38,21 +23,18 @@ use Rattle.hr_tree.specs.declared.modules.ImportNames.{ImportNames}
 use Rattle.hr_tree.specs.declared.modules.Imported.{Imported}
 use Rattle.hr_tree.specs.declared.modules.Header.{Header}
 use Rattle.hr_tree.specs.Names.{constructor_items, variable_items, operator_items, maybe_item, maybe_operator}
-use Rattle.hr_tree.specs.Lists.{listed_items, operand_items, piece_items, block_items, guarded_items, body_items, where_items}
-use Rattle.hr_tree.specs.Yields.{ty_items, pat_items, type_head_items, construction_items, left_head_items, closed_items, left_side_items, maybe_members, export_items, imported_items, name_list_items, maybe_alias, maybe_import_names, import_items, exp_layer, decl_layer, qualifier_layer, alt_layer, exp_items, decl_items, qualifier_items, alt_items, maybe_exports, header_items}
-use Rattle.hr_tree.proofs.ExpressionYields.{exp_group, exp_tuple, exp_list, exp_from, exp_from_then, exp_from_to, exp_from_then_to, exp_comprehension, exp_left_section, exp_right_section, exp_apply, exp_infix, exp_annotated, exp_lambda, exp_let, exp_if, exp_case, decl_equation, decl_binding, qualifier_generator, qualifier_locals, qualifier_test, alt_whole}
-use Rattle.hr_grammar.specs.Words.{IsOf, IsText, IsMinus, IsComma, IsBar, IsEquals, IsArrow, IsLeftParen}
-use Rattle.hr_grammar.specs.Spelled.{Maybe, IsNamedVariable, IsVariableOperator, IsOperator, IsOwnConstructor, IsOwnOperator, IsVariable}
+use Rattle.hr_tree.specs.Lists.{listed_items}
+use Rattle.hr_tree.specs.Yields.{ty_items, pat_items, type_head_items, construction_items, left_head_items, closed_items, left_side_items, maybe_members, export_items, imported_items, name_list_items, maybe_alias, maybe_import_names, import_items, maybe_exports}
+use Rattle.hr_grammar.specs.Words.{IsOf, IsText, IsMinus, IsComma, IsBar, IsLeftParen}
+use Rattle.hr_grammar.specs.Spelled.{Maybe, IsNamedVariable, IsVariableOperator, IsOperator, IsOwnConstructor, IsOwnOperator}
 use Rattle.hr_grammar.specs.Separated.{AreSeparated, There}
-use Rattle.hr_grammar.specs.Nodes.{TyPlace, PatPlace, ExpPlace, DeclPlace}
-use Rattle.hr_grammar.specs.Expressions.{ExpProduction, QualifierProduction, IsQualifierOver, AreExpOperands, last_operand}
-use Rattle.hr_grammar.specs.Declarations.{DeclProduction, IsConstructionOver, IsNewConstructionOver, IsLeftHeadOver, IsClosedOver, IsLeftSideOver, IsGuardedOver, IsBodyOver, IsWhereOver, IsTypeHead, IsDigit, fixity_words}
+use Rattle.hr_grammar.specs.Nodes.{TyPlace, PatPlace}
+use Rattle.hr_grammar.specs.Declarations.{IsConstructionOver, IsNewConstructionOver, IsLeftHeadOver, IsClosedOver, IsLeftSideOver, IsTypeHead, fixity_words}
 use Rattle.hr_grammar.specs.Imports.{AreMembers, IsNameList, IsExport, AreExports, IsImported, IsAlias, AreImportNames, IsImport}
-use Rattle.hr_grammar.specs.Blocks.{IsPiece, AreBraced}
-use Rattle.hr_grammar.specs.Yields.{nodes, IsHeader, AreDeclarationsOver, AreAlternativesOver}
+use Rattle.hr_grammar.specs.Yields.{nodes, IsHeader}
 use Rattle.hr_edges.specs.Openings.{opens_block, IsPlain, ArePlain}
 use Rattle.hr_edges.proofs.Openings.{plain_append, special_plain as special}
-use Rattle.hr_edges.proofs.Plain.{of_class, of_text, name, constructor, variable, constructor_operator, literal, absent, separated, all_of, types_plain, patterns_plain}
+use Rattle.hr_edges.proofs.Plain.{of_class, of_text, name, variable, constructor_operator, absent, separated, all_of, types_plain, patterns_plain}
 use Rattle.hr_grammar.proofs.PartFirsts.{spelled_is, either_true}
 
 pub used : (named : Named) → IsNamedVariable named → ArePlain (variable_items named)

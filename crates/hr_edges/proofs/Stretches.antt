@@ -1,46 +1,36 @@
 -- The blocks of expressions, declarations and alternatives begin behind their opening words: one recursion on the
 -- levels.
-use Rattle.std.proofs.Common.{◌≡◌, ◌⊎◌, ℕ, zero, suc, ◌+◌, Bool, true, false, List, [], ◌∷◌, ◌++◌, length, map, Option, Some, None, refl, sym, ap, ap₂, ◌∙◌, subst, inl, inr}
-use Rattle.std.specs.List.{AllByRecursion, flat_map}
+use Rattle.std.proofs.Common.{◌≡◌, ℕ, Bool, true, false, List, [], ◌∷◌, map, refl, sym, ap, ap₂, ◌∙◌, subst}
+use Rattle.std.specs.List.{flat_map}
 use lib.Chars.{codes}
 use Rattle.hr_base.specs.declared.lexeme.Class.{Class}
 use Rattle.hr_base.specs.declared.lexeme.Ending.{Ending}
 use Rattle.hr_base.specs.declared.lexeme.Item.{Item}
 use Rattle.hr_rules.specs.declared.block.BlockKind.{BlockKind}
-use Rattle.hr_tree.specs.declared.lists.Listed.{Listed}
 use Rattle.hr_tree.specs.declared.lists.Operand.{Operand}
-use Rattle.hr_tree.specs.declared.lists.Layout.{Layout}
 use Rattle.hr_tree.specs.declared.lists.Piece.{Piece}
 use Rattle.hr_tree.specs.declared.lists.Block.{Block}
-use Rattle.hr_tree.specs.declared.declarations.LeftSide.{LeftSide}
-use Rattle.hr_tree.specs.declared.declarations.Body.{Body}
-use Rattle.hr_tree.specs.declared.declarations.Guarded.{Guarded}
-use Rattle.hr_tree.specs.declared.declarations.Where.{Where}
-use Rattle.hr_tree.specs.declared.patterns.Pat.{Pat}
-use Rattle.hr_tree.specs.declared.expressions.Exp.{Exp, out-Exp, roll-Exp}
-use Rattle.hr_tree.specs.declared.expressions.Decl.{Decl, out-Decl, roll-Decl}
-use Rattle.hr_tree.specs.declared.expressions.Alt.{Alt, out-Alt, roll-Alt}
+use Rattle.hr_tree.specs.declared.expressions.Exp.{Exp, roll-Exp}
+use Rattle.hr_tree.specs.declared.expressions.Decl.{Decl}
+use Rattle.hr_tree.specs.declared.expressions.Alt.{Alt}
 use Rattle.hr_tree.specs.declared.expressions.Qualifier.{Qualifier, out-Qualifier, roll-Qualifier}
-use Rattle.hr_tree.specs.declared.expressions.Decl.TheOpen.{Exp-F, Decl-F, Qualifier-F, Alt-F}
-use Rattle.hr_tree.specs.declared.expressions.Decl.TheFolds.{fold-roll-Exp, fold-roll-Decl, fold-roll-Qualifier, fold-roll-Alt}
-use Rattle.hr_tree.specs.declared.expressions.Decl.TheViews.{roll-out-Exp, roll-out-Decl, roll-out-Qualifier, roll-out-Alt, rolls-Group, rolls-Tuple, rolls-List, rolls-From, rolls-FromThen, rolls-FromTo, rolls-FromThenTo, rolls-Comprehension, rolls-LeftSection, rolls-RightSection, rolls-Apply, rolls-Infix, rolls-Annotated, rolls-Lambda, rolls-Let, rolls-If, rolls-Case, rolls-Equation, rolls-Binding, rolls-Generator, rolls-Locals, rolls-Test}
+use Rattle.hr_tree.specs.declared.expressions.Decl.TheOpen.{Exp-F, Qualifier-F}
+use Rattle.hr_tree.specs.declared.expressions.Decl.TheFolds.{fold-roll-Exp, fold-roll-Qualifier}
+use Rattle.hr_tree.specs.declared.expressions.Decl.TheViews.{roll-out-Qualifier, rolls-Group, rolls-Tuple, rolls-List, rolls-From, rolls-FromThen, rolls-FromTo, rolls-FromThenTo, rolls-Comprehension, rolls-LeftSection, rolls-RightSection, rolls-Apply, rolls-Infix, rolls-Annotated, rolls-Lambda, rolls-Let, rolls-If, rolls-Case, rolls-Generator, rolls-Locals, rolls-Test}
 use Rattle.hr_tree.specs.Names.{constructor_items, variable_items, operator_items, maybe_item, maybe_operator}
-use Rattle.hr_tree.specs.Lists.{listed_items, operand_items, piece_items, block_items, guarded_items, body_items, where_items}
-use Rattle.hr_tree.specs.Yields.{ty_items, pat_items, type_head_items, construction_items, left_side_items, import_items, exp_layer, decl_layer, qualifier_layer, alt_layer, exp_items, decl_items, qualifier_items, alt_items}
-use Rattle.hr_tree.proofs.ExpressionYields.{exp_group, exp_tuple, exp_list, exp_from, exp_from_then, exp_from_to, exp_from_then_to, exp_comprehension, exp_left_section, exp_right_section, exp_apply, exp_infix, exp_annotated, exp_lambda, exp_let, exp_if, exp_case, decl_equation, decl_binding, qualifier_generator, qualifier_locals, qualifier_test, alt_whole}
-use Rattle.hr_grammar.specs.Words.{IsOf, IsText, IsMinus, IsComma, IsEquals, IsArrow, IsWord, IsReserved}
-use Rattle.hr_grammar.specs.Spelled.{IsVariable, IsOwnOperator}
+use Rattle.hr_tree.specs.Lists.{operand_items, block_items}
+use Rattle.hr_tree.specs.Yields.{ty_items, pat_items, exp_layer, decl_layer, qualifier_layer, alt_layer, exp_items, decl_items, qualifier_items, alt_items}
+use Rattle.hr_tree.proofs.ExpressionYields.{exp_group, exp_tuple, exp_list, exp_from, exp_from_then, exp_from_to, exp_from_then_to, exp_comprehension, exp_left_section, exp_right_section, exp_apply, exp_infix, exp_annotated, exp_lambda, exp_let, exp_if, exp_case, qualifier_generator, qualifier_locals, qualifier_test}
+use Rattle.hr_grammar.specs.Words.{IsText, IsMinus, IsComma, IsWord}
 use Rattle.hr_grammar.specs.Nodes.{TyPlace, PatPlace, ExpPlace, DeclPlace}
 use Rattle.hr_grammar.specs.Expressions.{ExpProduction, QualifierProduction, IsQualifierOver, AreExpOperands, last_operand}
-use Rattle.hr_grammar.specs.Declarations.{DeclProduction, IsAltOver, IsGuardedOver, IsBodyOver, IsWhereOver, IsDigit}
-use Rattle.hr_grammar.specs.Blocks.{IsPiece, AreBraced}
-use Rattle.hr_grammar.specs.Yields.{nodes, AreDeclarationsOver, AreAlternativesOver}
-use Rattle.hr_grammar.specs.Spans.{Laid, bare, one, row, ending_as, ◌▷◌, operand_laid, piece_laid, guarded_laid, part_ending, body_laid, right_side_laid, block_laid, exp_laid, decl_laid, qualifier_laid, alt_laid, laid_of}
+use Rattle.hr_grammar.specs.Yields.{nodes}
+use Rattle.hr_grammar.specs.Spans.{Laid, one, row, operand_laid, block_laid, exp_laid, decl_laid, qualifier_laid, alt_laid, laid_of}
 use Rattle.hr_edges.specs.Openings.{is_opening, opens_block, IsPlain, ArePlain, IsLaidBy}
 use Rattle.hr_edges.specs.Laws.{exp_stretch, qualifier_stretch, alt_stretch}
-use Rattle.hr_edges.proofs.Openings.{append_nothing, plain_append, special_plain as special, same, plain, join, ends_as, IsBlockBy, same_block, join_block, opened, all_by, separated_by, pieces_by, braced_by}
-use Rattle.hr_edges.proofs.Plain.{of_text, of_class, constructor, variable, literal, separated, all_of, types_plain, patterns_plain}
-use Rattle.hr_edges.proofs.PlainParts.{used, operator, own_operator, maybe, minus, no_operator, type_head_plain, construction_plain, new_construction_plain, constructions_plain, left_side_plain, import_plain, fixity_word}
+use Rattle.hr_edges.proofs.Openings.{special_plain as special, same, plain, join, ends_as, IsBlockBy, join_block, opened, all_by, separated_by}
+use Rattle.hr_edges.proofs.Plain.{of_text, constructor, literal, all_of, types_plain, patterns_plain}
+use Rattle.hr_edges.proofs.PlainParts.{used, operator, maybe, minus, no_operator}
 
 -- one lexeme
 pub token : (text : List ℕ) (class : Class) (item : Item) → IsText class text item → opens_block class text ≡ false → IsLaidBy (item ∷ []) (one item)
