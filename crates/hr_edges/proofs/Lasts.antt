@@ -94,10 +94,10 @@ last_operand_ends test of operand none e =
     ends_after test (maybe_item operand.minus) (of operand.part ++ maybe_operator operand.operator) (subst (λ o. Ends test (of operand.part ++ maybe_operator o)) (sym none) (ends_before_nothing test (of operand.part) e))
 
 -- blocks behind a word: it ends them where they have no lexeme
-pieces_end : {T : Type 0} (test : Test) (of : T → List Item) (Is : T → Type 0) → test Class.Special (codes ";") ≡ true → ((part : T) → Is part → Ends test (of part))
+piece_ends : {T : Type 0} (test : Test) (of : T → List Item) (Is : T → Type 0) → test Class.Special (codes ";") ≡ true → ((part : T) → Is part → Ends test (of part))
     → (piece : Piece T) → IsPiece Is piece → Ends test (piece_items of piece)
-pieces_end test of Is semicolon each (Piece.Semicolon item) is = text_ends test Class.Special (codes ";") item is semicolon
-pieces_end test of Is semicolon each (Piece.Part part) is = each part is
+piece_ends test of Is semicolon each (Piece.Semicolon item) is = text_ends test Class.Special (codes ";") item is semicolon
+piece_ends test of Is semicolon each (Piece.Part part) is = each part is
 
 pub block_ends : {T : Type 0} (test : Test) (of : T → List Item) (Is : T → Type 0) → test Class.Special (codes ";") ≡ true → test Class.Special (codes "}") ≡ true → ((part : T) → Is part → Ends test (of part))
     → (word : Item) → test word.lexeme.class word.lexeme.text ≡ true → (layout : Layout) (pieces : List (Piece T)) → AreBraced layout pieces → AllByRecursion (IsPiece Is) pieces
@@ -105,7 +105,7 @@ pub block_ends : {T : Type 0} (test : Test) (of : T → List Item) (Is : T → T
 block_ends test of Is semicolon brace each word t (Layout.Implicit col) [] braced is = t
 block_ends test of Is semicolon brace each word t (Layout.Implicit col) (piece ∷ pieces) braced is =
     ends_behind test word (flat_map (piece_items of) (piece ∷ pieces) ++ []) (ends_before_nothing test (flat_map (piece_items of) (piece ∷ pieces))
-    (all_end test (piece_items of) (IsPiece Is) (pieces_end test of Is semicolon each) (piece ∷ pieces) (λ e. let no : ⊥ = cc in no) is))
+    (all_end test (piece_items of) (IsPiece Is) (piece_ends test of Is semicolon each) (piece ∷ pieces) (λ e. let no : ⊥ = cc in no) is))
 block_ends test of Is semicolon brace each word t (Layout.Explicit left right) pieces braced is =
     ends_behind test word (left ∷ (flat_map (piece_items of) pieces ++ right ∷ [])) (ends_behind test left (flat_map (piece_items of) pieces ++ right ∷ [])
     (ends_with test (flat_map (piece_items of) pieces) right (text_ends test Class.Special (codes "}") right braced.1.0 brace)))
@@ -142,7 +142,7 @@ constructor_ends test closes (Built.Unit left right) is = right_paren test close
 constructor_ends test closes (Built.EmptyList left right) is = right_square test closes (left ∷ []) right is.1
 constructor_ends test closes (Built.Tuple left commas right) is = right_paren test closes (left ∷ commas) right is.1.1
 
-pub variable_ends : (test : Test) → Closes test → (named : Named) → IsVariable named → Ends test (variable_items named)
+variable_ends : (test : Test) → Closes test → (named : Named) → IsVariable named → Ends test (variable_items named)
 variable_ends test closes (Named.Name name) is = class_ends test Class.VarId name is (closes.variables name.lexeme.text)
 variable_ends test closes (Named.Symbol left symbol right) is = right_paren test closes (left ∷ symbol ∷ []) right is.1.1
 

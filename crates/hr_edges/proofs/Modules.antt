@@ -22,7 +22,7 @@ pub body_by : (tree : Module) (items : Items) → DeepYields tree items → IsBl
 body_by tree items yields = (all_below yields.grammar.0).declarations BlockKind.Body DeclPlace.Top tree.body yields.grammar.1.1 piece_of (λ item. refl) (λ part. refl)
 
 -- the items behind the header are those of the body
-pub behind_header : (tree : Module) (items : Items) → DeepYields tree items → drop (body_start tree) items.list ≡ block_items decl_items tree.body
+behind_header : (tree : Module) (items : Items) → DeepYields tree items → drop (body_start tree) items.list ≡ block_items decl_items tree.body
 behind_header tree items yields = ap (λ (i : Items). drop (body_start tree) i.list) (sym yields.items_are) ∙ drop-append_seam (header_items tree.header) (block_items decl_items tree.body)
 
 modules_begin : (tree : Module) (items : Items) → DeepYields tree items → starts_of (spans_of tree) ≡ body_start tree ∷ behind_openings (body_start tree) (drop (body_start tree) items.list)

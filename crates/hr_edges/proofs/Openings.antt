@@ -79,9 +79,6 @@ pub record IsBlockBy (items : List Item) (laid : Laid) : Type 0 where
   pub extent : laid.extent ≡ length items
   pub starts : (m n : ℕ) → starts_of (laid.blocks m n) ≡ n ∷ behind_openings n items
 
-pub same_block : {items others : List Item} {laid other : Laid} → items ≡ others → laid ≡ other → IsBlockBy others other → IsBlockBy items laid
-same_block {items} {others} {laid} {other} e f is = subst (λ l. IsBlockBy items l) (sym f) (subst (λ i. IsBlockBy i other) (sym e) is)
-
 pub join_block : {xs ys : List Item} {first second : Laid} → IsBlockBy xs first → IsLaidBy ys second → IsBlockBy (xs ++ ys) (first ▷ second)
 join_block {xs} {ys} {first} {second} f s = record {
   extent = ap₂ (λ a b. a + b) f.extent s.extent ∙ sym (length-append xs ys);
@@ -96,7 +93,7 @@ opened {items} {laid} word o is = record {
   starts = λ m n. is.starts m (n + 1) ∙ (let e : n + 1 ≡ suc n = omega arith in ap (λ k. k ∷ behind_openings k items) e) ∙ sym (numbers_opening n word items o);
 }
 
-pub block_by : (kind : BlockKind) (layout : Layout) (pieces : List (Piece Laid)) (inner : List Item) → ArePlain (opening_items layout) → ArePlain (closing_items layout)
+block_by : (kind : BlockKind) (layout : Layout) (pieces : List (Piece Laid)) (inner : List Item) → ArePlain (opening_items layout) → ArePlain (closing_items layout)
     → IsLaidBy inner (row (map piece_laid pieces)) → IsBlockBy (opening_items layout ++ (inner ++ closing_items layout)) (block_laid kind (record { layout = layout; pieces = pieces }))
 block_by kind layout pieces inner p q is =
     let whole = join (plain (opening_items layout) p) (join is (plain (closing_items layout) q)) in

@@ -91,7 +91,7 @@ no_operator (Some sign) e = let no : ⊥ = cc in elim no [ ]
 pub type_head_plain : (head : TypeHead) → IsTypeHead head → ArePlain (type_head_items head)
 type_head_plain head is = (of_class Class.ConId head.name is.0 refl, all_items (IsOf Class.VarId) (λ item o. of_class Class.VarId item o refl) head.variables is.1)
 
-pub construction_plain : (levels : ℕ) (construction : Construction) → IsConstructionOver (nodes levels) construction → ArePlain (construction_items construction)
+construction_plain : (levels : ℕ) (construction : Construction) → IsConstructionOver (nodes levels) construction → ArePlain (construction_items construction)
 construction_plain levels (Construction.Prefix named types) is =
     plain_append (constructor_items named) (flat_map ty_items types) (own_constructor named is.0) (all_of ty_items ((nodes levels).ty TyPlace.Atomic) (types_plain levels TyPlace.Atomic) types is.1)
 construction_plain levels (Construction.Infix first sign second) is =

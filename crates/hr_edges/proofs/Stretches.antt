@@ -43,7 +43,7 @@ bracket text item is = plain (item ∷ []) (special text item is, tt)
 pub opens : (text : List ℕ) (word : Item) → IsWord text word → opens_block Class.ReservedId text ≡ true → is_opening word ≡ true
 opens text word is o = ap₂ opens_block is.0 is.1 ∙ o
 
-pub comma_plain : (item : Item) → IsComma item → IsPlain item
+comma_plain : (item : Item) → IsComma item → IsPlain item
 comma_plain item is = special (codes ",") item is
 
 -- all that stands on a level. A block's pieces are turned by what turns their parts
