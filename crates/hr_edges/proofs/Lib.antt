@@ -1,0 +1,12 @@
+pub mod Openings
+pub mod Plain
+pub mod PlainParts
+pub mod Stretches
+pub mod PartStretches
+pub mod Modules
+pub mod Lasts
+pub mod PartLasts
+pub mod Bodies
+pub mod FirstBlocks
+pub mod NoTrees
+pub mod LastsPossible
