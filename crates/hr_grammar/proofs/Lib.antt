@@ -3,10 +3,10 @@ pub mod Firsts
 pub mod Joins
 pub mod Laid
 pub mod LeftOut
-pub mod LeftOutWhole
 pub mod NoTrees
 pub mod OffsideTest
 pub mod PartFirsts
 pub mod Places
 pub mod TwiceAnnotated
 pub mod Worked
+pub mod walk

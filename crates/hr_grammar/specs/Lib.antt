@@ -9,6 +9,7 @@ pub mod LeftOut
 pub mod Nodes
 pub mod Offside
 pub mod Patterns
+pub mod Phrases
 pub mod Reads
 pub mod SameTrees
 pub mod Separated

@@ -6,12 +6,12 @@ use Rattle.hr_base.specs.declared.lexeme.Class.{Class}
 use Rattle.hr_base.specs.declared.lexeme.Item.{Item}
 use Rattle.hr_rules.specs.Names.{is_one_of, is_spelled}
 use Rattle.hr_grammar.specs.Words.{IsText, IsWord, IsLeftParen, IsRightParen, IsLeftSquare, IsRightSquare, IsLeftBrace, IsRightBrace}
-use Rattle.hr_phrases.specs.Phrases.{Everywhere}
+use Rattle.hr_grammar.specs.Phrases.{Everywhere}
 use Rattle.hr_phrases.specs.Balance.{fewer, open_behind, passed_bracket, open_after, Balances, ParenthesesBalance, SquareBracketsBalance, BracesBalance}
-use Rattle.hr_phrases.proofs.Rules.{brackets, is_paired, Joins, InTrees}
-use Rattle.hr_phrases.proofs.Lists.{put}
-use Rattle.hr_phrases.proofs.Tables.{none_of}
-use Rattle.hr_phrases.proofs.Modules.{trees_keep_lem}
+use Rattle.hr_grammar.proofs.walk.Rules.{brackets, is_paired, Joins, InTrees}
+use Rattle.hr_grammar.proofs.walk.Lists.{put}
+use Rattle.hr_grammar.proofs.walk.Tables.{none_of}
+use Rattle.hr_grammar.proofs.walk.Modules.{trees_keep_lem}
 
 -- as many are open behind the items as before them
 abbrev pub Keeps : List ℕ → List ℕ → List Item → Type 0
@@ -59,7 +59,7 @@ reserved_word left right text item is n = at_text left right Class.ReservedId te
 pair_keeps : (left right : List ℕ) → Pair left right → InTrees (Keeps left right) (Keeps left right)
 pair_keeps left right pair = record {
   joins = keeps_joins left right;
-  plain = λ item e n. plain_stays left right pair item.lexeme.class item.lexeme.text e n;
+  plain = λ item e kept n. plain_stays left right pair item.lexeme.class item.lexeme.text e n;
   parens = pair.parens;
   braces = pair.braces;
   lets = λ word in_word xs ys w i p q. put (keeps_joins left right) word (xs ++ in_word ∷ ys) (reserved_word left right (codes "let") word w)

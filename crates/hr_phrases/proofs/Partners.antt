@@ -1,18 +1,19 @@
 -- A `let` has its `in`, `<-` stands in square brackets, and a pattern has no mark that parts it from what follows.
 use Rattle.std.proofs.Common.{◌≡◌, ◌⊎◌, ℕ, ◌||◌, Bool, true, false, List, [], ◌∷◌, ◌++◌, refl, sym, ap, ap₂, ◌∙◌, inl, inr, ⊎_elim}
-use Rattle.std.specs.List.{AllByRecursion, list_any}
+use Rattle.std.specs.List.{list_any}
 use Rattle.std.proofs.lemmas.List.Folds.{list_any-append}
 use lib.Chars.{codes}
 use Rattle.hr_base.specs.declared.lexeme.Class.{Class}
 use Rattle.hr_base.specs.declared.lexeme.Item.{Item}
-use Rattle.hr_grammar.specs.Words.{IsOf, IsText, IsWord}
+use Rattle.hr_grammar.specs.Words.{IsText, IsWord}
 use Rattle.hr_grammar.proofs.PartFirsts.{either_true}
 use Rattle.hr_phrases.specs.Partners.{Has, is_let, is_back_arrow, is_left_square, is_in_or_left_square, is_parting_mark, LetHasIn, BackArrowInBrackets, PatternsHaveNoBar}
-use Rattle.hr_phrases.proofs.Rules.{paired_words, is_paired, is_parting, Joins, InPatterns, InTrees}
-use Rattle.hr_phrases.proofs.Lists.{put}
-use Rattle.hr_phrases.proofs.Tables.{none_of}
-use Rattle.hr_phrases.proofs.TypesAndPatterns.{patterns_keep}
-use Rattle.hr_phrases.proofs.Modules.{trees_keep_lem}
+use Rattle.hr_grammar.proofs.walk.Rules.{paired_words, is_paired, is_parting, Joins, InTrees}
+use Rattle.hr_grammar.proofs.walk.Lists.{put}
+use Rattle.hr_grammar.proofs.walk.Tables.{none_of}
+use Rattle.hr_grammar.proofs.walk.TypesAndPatterns.{patterns_keep}
+use Rattle.hr_grammar.proofs.walk.Without.{without_in_brackets}
+use Rattle.hr_grammar.proofs.walk.Modules.{trees_keep_lem}
 
 abbrev Tested : (Class → List ℕ → Bool) → Item → Bool
 Tested test item = test item.lexeme.class item.lexeme.text
@@ -79,7 +80,7 @@ let_implies first second tests word in_word xs ys w i p q = ⊎_elim no_word beh
 tests_keep : (first second : Class → List ℕ → Bool) → Tests first second → InTrees (Implies first second) (λ xs. Unit {0})
 tests_keep first second tests = record {
   joins = implies_joins first second;
-  plain = λ item e. fails first second item (tests.plain item.lexeme.class item.lexeme.text e);
+  plain = λ item e kept. fails first second item (tests.plain item.lexeme.class item.lexeme.text e);
   parens = in_brackets first second tests (codes "(") (codes ")");
   braces = in_brackets first second tests (codes "{") (codes "}");
   lets = let_implies first second tests;
@@ -110,23 +111,5 @@ no_mark : (class : Class) (text : List ℕ) → is_parting class text ≡ false 
 no_mark Class.ReservedOp text e = e
 no_mark _ text e = refl
 
-abbrev AreUnmarked : List Item → Type 0
-AreUnmarked = AllByRecursion (λ (item : Item). is_parting_mark item.lexeme.class item.lexeme.text ≡ false)
-
-unmarked_join : (xs ys : List Item) → AreUnmarked xs → AreUnmarked ys → AreUnmarked (xs ++ ys)
-unmarked_join [] ys p q = q
-unmarked_join (x ∷ xs) ys p q = (p.0, unmarked_join xs ys p.1 q)
-
-special_unmarked : (item : Item) → IsOf Class.Special item → is_parting_mark item.lexeme.class item.lexeme.text ≡ false
-special_unmarked item is = ap (λ c. is_parting_mark c item.lexeme.text) is
-
-patterns_unmarked : InPatterns AreUnmarked
-patterns_unmarked = record {
-  joins = record { nothing = tt; join = unmarked_join };
-  plain = λ item e. (no_mark item.lexeme.class item.lexeme.text e, tt);
-  parens = λ left right xs l r p. (special_unmarked left l.0, unmarked_join xs (right ∷ []) p (special_unmarked right r.0, tt));
-  squares = λ left right xs l r p. (special_unmarked left l.0, unmarked_join xs (right ∷ []) p (special_unmarked right r.0, tt));
-}
-
 pub patterns_have_no_bar_lem : PatternsHaveNoBar
-patterns_have_no_bar_lem = patterns_keep patterns_unmarked
+patterns_have_no_bar_lem = patterns_keep (without_in_brackets is_parting is_parting_mark (λ class text e kept. no_mark class text e) (λ text. refl))

@@ -4,7 +4,7 @@ use lib.Chars.{codes}
 use Rattle.hr_base.specs.declared.lexeme.Class.{Class}
 use Rattle.hr_base.specs.declared.lexeme.Item.{Item}
 use Rattle.hr_rules.specs.Names.{is_spelled}
-use Rattle.hr_phrases.specs.Phrases.{Everywhere}
+use Rattle.hr_grammar.specs.Phrases.{Everywhere}
 
 -- one fewer, where there is one
 abbrev pub fewer : ℕ → Option ℕ

@@ -1,5 +1,4 @@
 pub mod Balance
 pub mod GuardBeforeBar
 pub mod Partners
-pub mod Phrases
 pub mod Texts

@@ -10,7 +10,7 @@ use Rattle.hr_tree.specs.declared.patterns.Pat.{Pat}
 use Rattle.hr_tree.specs.Yields.{pat_items}
 use Rattle.hr_grammar.specs.Nodes.{PatPlace}
 use Rattle.hr_grammar.specs.Yields.{nodes}
-use Rattle.hr_phrases.specs.Phrases.{Everywhere}
+use Rattle.hr_grammar.specs.Phrases.{Everywhere}
 
 -- some item is of a class and text that pass the test
 abbrev pub Has : (Class → List ℕ → Bool) → List Item → Type 0

@@ -1,5 +1,5 @@
 -- Names, operators and literals: each is plain, or stands in brackets with what is plain.
-use Rattle.std.proofs.Common.{◌≡◌, ◌⊎◌, ℕ, false, List, [], ◌∷◌, refl, ap, ap₂, ◌∙◌, inl, inr}
+use Rattle.std.proofs.Common.{◌≡◌, ◌⊎◌, ℕ, ◌||◌, Bool, false, List, [], ◌∷◌, refl, ap, ap₂, ◌∙◌, inl, inr}
 use lib.Chars.{codes}
 use Rattle.hr_base.specs.declared.lexeme.Class.{Class}
 use Rattle.hr_base.specs.declared.lexeme.Item.{Item}
@@ -9,37 +9,63 @@ use Rattle.hr_tree.specs.declared.names.Operator.{Operator}
 use Rattle.hr_tree.specs.Names.{constructor_items, variable_items, operator_items}
 use Rattle.hr_grammar.specs.Words.{IsOf, IsText, IsComma, IsMinus, IsLiteral}
 use Rattle.hr_grammar.specs.Spelled.{IsColon, IsVariable, IsNamedVariable, IsConstructor, IsTypeConstructor, IsOwnConstructor, IsOwnOperator, IsConstructorOperator, IsVariableOperator, IsOperator}
-use Rattle.hr_phrases.specs.Partners.{parting_marks}
-use Rattle.hr_phrases.proofs.Rules.{is_paired, is_parting, InPatterns, InTrees}
-use Rattle.hr_phrases.proofs.Tables.{none_of}
-use Rattle.hr_phrases.proofs.Lists.{put, all_items}
+use Rattle.hr_grammar.specs.LeftOut.{left_out}
+use Rattle.hr_grammar.proofs.walk.Rules.{paired_words, block_words, marks_between, is_paired, is_by_block, is_parting, InBrackets, InPatterns, InTypes, InTrees}
+use Rattle.hr_grammar.proofs.walk.Tables.{left_false, right_false, none_of, none_among}
+use Rattle.hr_grammar.proofs.walk.Lists.{put, all_items}
 
--- what parts nothing is no lexeme of a pair
-paired_parts : (class : Class) (text : List ℕ) → is_parting class text ≡ false → is_paired class text ≡ false
-paired_parts Class.ReservedId text e = e
-paired_parts Class.ReservedOp text e = (none_of parting_marks text e).0
-paired_parts Class.Special text e = e
-paired_parts _ text e = refl
-
--- what goes over in trees goes over in patterns
-pub patterns_of : {P Q : List Item → Type 0} → InTrees P Q → InPatterns P
-patterns_of h = record {
+-- of one test with a weaker one
+weaker : {P : List Item → Type 0} (first second : Class → List ℕ → Bool) → ((class : Class) (text : List ℕ) → second class text ≡ false → first class text ≡ false) → InBrackets first P → InBrackets second P
+weaker first second less h = record {
   joins = h.joins;
-  plain = λ item e. h.plain item (paired_parts item.lexeme.class item.lexeme.text e);
+  plain = λ item e kept. h.plain item (less item.lexeme.class item.lexeme.text e) kept;
+  parens = h.parens;
+  squares = h.squares;
+}
+
+pairs_by_block : (class : Class) (text : List ℕ) → is_by_block class text ≡ false → is_paired class text ≡ false
+pairs_by_block Class.ReservedId text e = none_among paired_words block_words text (refl, (refl, tt)) e
+pairs_by_block Class.ReservedOp text e = e
+pairs_by_block Class.Special text e = e
+pairs_by_block _ text e = refl
+
+blocks_part : (class : Class) (text : List ℕ) → is_parting class text ≡ false → is_by_block class text ≡ false
+blocks_part Class.ReservedId text e = e
+blocks_part Class.ReservedOp text e = (none_of marks_between text e).0
+blocks_part Class.Special text e = e
+blocks_part _ text e = refl
+
+-- what goes over in trees goes over in brackets, in types, and in patterns
+brackets_of : {P Q : List Item → Type 0} → InTrees P Q → InBrackets is_paired P
+brackets_of h = record {
+  joins = h.joins;
+  plain = h.plain;
   parens = h.parens;
   squares = λ left right xs l r p. h.squares left right xs l r (h.inside xs p);
 }
 
--- one item, by its class or its text
-pub of_class : {P : List Item → Type 0} → InPatterns P → (class : Class) (item : Item) → IsOf class item → is_parting class item.lexeme.text ≡ false → P (item ∷ [])
-of_class h class item is t = h.plain item (ap (λ c. is_parting c item.lexeme.text) is ∙ t)
+pub types_of : {P Q : List Item → Type 0} → InTrees P Q → InTypes P
+types_of h = weaker is_paired is_by_block pairs_by_block (brackets_of h)
 
-pub of_text : {P : List Item → Type 0} → InPatterns P → (class : Class) (text : List ℕ) (item : Item) → IsText class text item → is_parting class text ≡ false → P (item ∷ [])
-of_text h class text item is t = h.plain item (ap₂ is_parting is.0 is.1 ∙ t)
+pub patterns_in : {P : List Item → Type 0} → InTypes P → InPatterns P
+patterns_in h = weaker is_by_block is_parting blocks_part h
+
+pub patterns_of : {P Q : List Item → Type 0} → InTrees P Q → InPatterns P
+patterns_of h = patterns_in (types_of h)
+
+-- one item, by its class or its text
+pub of_class : {apart : Class → List ℕ → Bool} {P : List Item → Type 0} → InBrackets apart P → (class : Class) (item : Item) → IsOf class item → (apart class item.lexeme.text || left_out class item.lexeme.text) ≡ false → P (item ∷ [])
+of_class {apart} h class item is t =
+    h.plain item (ap (λ c. apart c item.lexeme.text) is ∙ left_false (apart class item.lexeme.text) (left_out class item.lexeme.text) t)
+    (ap (λ c. left_out c item.lexeme.text) is ∙ right_false (apart class item.lexeme.text) (left_out class item.lexeme.text) t)
+
+pub of_text : {apart : Class → List ℕ → Bool} {P : List Item → Type 0} → InBrackets apart P → (class : Class) (text : List ℕ) (item : Item) → IsText class text item → (apart class text || left_out class text) ≡ false → P (item ∷ [])
+of_text {apart} h class text item is t =
+    h.plain item (ap₂ apart is.0 is.1 ∙ left_false (apart class text) (left_out class text) t) (ap₂ left_out is.0 is.1 ∙ right_false (apart class text) (left_out class text) t)
 
 -- in a tree
-pub of_word : {P Q : List Item → Type 0} → InTrees P Q → (class : Class) (text : List ℕ) (item : Item) → IsText class text item → is_paired class text ≡ false → P (item ∷ [])
-of_word h class text item is t = h.plain item (ap₂ is_paired is.0 is.1 ∙ t)
+pub of_word : {P Q : List Item → Type 0} → InTrees P Q → (class : Class) (text : List ℕ) (item : Item) → IsText class text item → (is_paired class text || left_out class text) ≡ false → P (item ∷ [])
+of_word h class text item is t = of_text (brackets_of h) class text item is t
 
 pub comma : {P : List Item → Type 0} → InPatterns P → (item : Item) → IsComma item → P (item ∷ [])
 comma h item is = of_text h Class.Special (codes ",") item is refl
@@ -77,12 +103,12 @@ constructor h (Built.Unit left right) is = h.parens left right [] is.0 is.1 h.jo
 constructor h (Built.EmptyList left right) is = h.squares left right [] is.0 is.1 h.joins.nothing
 constructor h (Built.Tuple left commas right) is = h.parens left right commas is.0 is.1.1 (all_items h.joins IsComma (comma h) commas is.1.0.0)
 
-pub type_constructor : {P Q : List Item → Type 0} → InTrees P Q → (named : Built) → IsTypeConstructor named → P (constructor_items named)
-type_constructor h (Built.Name item) is = large_name (patterns_of h) item is
-type_constructor h (Built.Symbol left sign right) is = h.parens left right (sign ∷ []) is.0 is.1.1 (of_word h Class.ReservedOp (codes "->") sign is.1.0 refl)
+pub type_constructor : {P : List Item → Type 0} → InTypes P → (named : Built) → IsTypeConstructor named → P (constructor_items named)
+type_constructor h (Built.Name item) is = large_name (patterns_in h) item is
+type_constructor h (Built.Symbol left sign right) is = h.parens left right (sign ∷ []) is.0 is.1.1 (of_text h Class.ReservedOp (codes "->") sign is.1.0 refl)
 type_constructor h (Built.Unit left right) is = h.parens left right [] is.0 is.1 h.joins.nothing
-type_constructor h (Built.EmptyList left right) is = h.squares left right [] is.0 is.1 (h.inside [] h.joins.nothing)
-type_constructor h (Built.Tuple left commas right) is = h.parens left right commas is.0 is.1.1 (all_items h.joins IsComma (comma (patterns_of h)) commas is.1.0.0)
+type_constructor h (Built.EmptyList left right) is = h.squares left right [] is.0 is.1 h.joins.nothing
+type_constructor h (Built.Tuple left commas right) is = h.parens left right commas is.0 is.1.1 (all_items h.joins IsComma (comma (patterns_in h)) commas is.1.0.0)
 
 pub own_constructor : {P : List Item → Type 0} → InPatterns P → (named : Built) → IsOwnConstructor named → P (constructor_items named)
 own_constructor h (Built.Name item) is = of_class h Class.ConId item is refl

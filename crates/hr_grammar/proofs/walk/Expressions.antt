@@ -1,6 +1,6 @@
 -- What goes over from the parts of trees to the whole is true of each expression and qualifier, where it is of
 -- all that stands on the level below.
-use Rattle.std.proofs.Common.{◌≡◌, ℕ, Bool, true, false, List, [], ◌∷◌, ◌++◌, refl, sym, ap, ◌∙◌, subst}
+use Rattle.std.proofs.Common.{◌≡◌, ℕ, ◌||◌, Bool, true, false, List, [], ◌∷◌, ◌++◌, refl, sym, ap, ◌∙◌, subst}
 use Rattle.std.specs.List.{flat_map}
 use Rattle.std.proofs.lemmas.List.{append_assoc}
 use lib.Chars.{codes}
@@ -23,10 +23,11 @@ use Rattle.hr_grammar.specs.Words.{IsMinus, IsComma, IsDots}
 use Rattle.hr_grammar.specs.Nodes.{TyPlace, PatPlace, ExpPlace, DeclPlace}
 use Rattle.hr_grammar.specs.Expressions.{ExpProduction, QualifierProduction, IsQualifierOver, AreExpOperands, last_operand}
 use Rattle.hr_grammar.specs.Yields.{nodes}
-use Rattle.hr_phrases.proofs.Rules.{is_paired, Joins, InTrees}
-use Rattle.hr_phrases.proofs.Lists.{put, maybe, no_operator, all_of, separated}
-use Rattle.hr_phrases.proofs.Names.{patterns_of, of_word, comma, minus, literal, constructor, named_variable, any_operator}
-use Rattle.hr_phrases.proofs.TypesAndPatterns.{types_keep, patterns_keep}
+use Rattle.hr_grammar.specs.LeftOut.{left_out}
+use Rattle.hr_grammar.proofs.walk.Rules.{is_paired, Joins, InTrees}
+use Rattle.hr_grammar.proofs.walk.Lists.{put, maybe, no_operator, all_of, separated}
+use Rattle.hr_grammar.proofs.walk.Names.{types_of, patterns_of, of_word, comma, minus, literal, constructor, named_variable, any_operator}
+use Rattle.hr_grammar.proofs.walk.TypesAndPatterns.{types_keep, patterns_keep}
 
 -- the property is true of all that stands on a level
 pub record Below (P : List Item → Type 0) (levels : ℕ) : Type 0 where
@@ -37,7 +38,7 @@ pub record Below (P : List Item → Type 0) (levels : ℕ) : Type 0 where
   pub alternatives : (block : Block Alt) → (nodes levels).alternatives block → P (block_items alt_items block)
 
 -- a word or a mark before items
-pub before : {P Q : List Item → Type 0} → InTrees P Q → (class : Class) (text : List ℕ) (item : Item) (items : List Item) → (item.lexeme.class ≡ class) × (item.lexeme.text ≡ text) → is_paired class text ≡ false → P items → P (item ∷ items)
+pub before : {P Q : List Item → Type 0} → InTrees P Q → (class : Class) (text : List ℕ) (item : Item) (items : List Item) → (item.lexeme.class ≡ class) × (item.lexeme.text ≡ text) → (is_paired class text || left_out class text) ≡ false → P items → P (item ∷ items)
 before h class text item items is t p = put h.joins item items (of_word h class text item is t) p
 
 dots : {P Q : List Item → Type 0} → InTrees P Q → (item : Item) → IsDots item → P (item ∷ [])
@@ -172,5 +173,5 @@ exp_level {P} h levels below free place (Exp-F.Infix list) is =
 exp_level {P} h levels below free place (Exp-F.Annotated part colons ty) is =
     subst P (sym (ap exp_items (rolls-Annotated part colons ty) ∙ exp_annotated part colons ty))
     (h.joins.join (exp_items part) (colons ∷ ty_items ty) (below.exp true ExpPlace.Annotated part is.2)
-    (before h Class.ReservedOp (codes "::") colons (ty_items ty) is.3 refl (types_keep h levels TyPlace.Whole ty is.4)))
+    (before h Class.ReservedOp (codes "::") colons (ty_items ty) is.3 refl (types_keep (types_of h) levels TyPlace.Whole ty is.4)))
 exp_level {P} h levels below free place (Exp-F.Fields part left fields right) is = elim is [ ]

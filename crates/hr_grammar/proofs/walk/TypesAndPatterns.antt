@@ -23,13 +23,13 @@ use Rattle.hr_grammar.specs.Nodes.{TyPlace, PatPlace}
 use Rattle.hr_grammar.specs.Types.{TyProduction}
 use Rattle.hr_grammar.specs.Patterns.{PatProduction, ArePatOperands}
 use Rattle.hr_grammar.specs.Yields.{nodes}
-use Rattle.hr_phrases.proofs.Rules.{InPatterns, InTrees}
-use Rattle.hr_phrases.proofs.Lists.{put, absent, no_operator, all_of, separated}
-use Rattle.hr_phrases.proofs.Names.{patterns_of, of_class, of_text, of_word, comma, minus, literal, constructor, type_constructor, variable, constructor_operator}
+use Rattle.hr_grammar.proofs.walk.Rules.{InPatterns, InTypes}
+use Rattle.hr_grammar.proofs.walk.Lists.{put, absent, no_operator, all_of, separated}
+use Rattle.hr_grammar.proofs.walk.Names.{patterns_in, of_class, of_text, comma, minus, literal, constructor, type_constructor, variable, constructor_operator}
 
-ty_level : {P Q : List Item → Type 0} → InTrees P Q → (levels : ℕ) → ((place : TyPlace) (ty : Ty) → (nodes levels).ty place ty → P (ty_items ty))
+ty_level : {P : List Item → Type 0} → InTypes P → (levels : ℕ) → ((place : TyPlace) (ty : Ty) → (nodes levels).ty place ty → P (ty_items ty))
     → (place : TyPlace) (layer : Ty-F Ty) → TyProduction (nodes levels) place layer → P (ty_items (roll-Ty layer))
-ty_level {P} h levels below place (Ty-F.Variable item) is = subst P (sym (fold-roll-Ty (List Item) ty_layer (Ty-F.Variable item))) (of_class (patterns_of h) Class.VarId item is refl)
+ty_level {P} h levels below place (Ty-F.Variable item) is = subst P (sym (fold-roll-Ty (List Item) ty_layer (Ty-F.Variable item))) (of_class (patterns_in h) Class.VarId item is refl)
 ty_level {P} h levels below place (Ty-F.Constructor named) is = subst P (sym (fold-roll-Ty (List Item) ty_layer (Ty-F.Constructor named))) (type_constructor h named is)
 ty_level {P} h levels below place (Ty-F.Apply named arguments) is =
     subst P (sym (fold-roll-Ty (List Item) ty_layer (Ty-F.Apply named arguments) ∙ ap (λ l. constructor_items named ++ l) (flat_map-map done ty_items arguments)))
@@ -37,18 +37,18 @@ ty_level {P} h levels below place (Ty-F.Apply named arguments) is =
 ty_level {P} h levels below place (Ty-F.Function from arrow to) is =
     subst P (sym (fold-roll-Ty (List Item) ty_layer (Ty-F.Function from arrow to)))
     (h.joins.join (ty_items from) (arrow ∷ ty_items to) (below TyPlace.Applied from is.1)
-    (put h.joins arrow (ty_items to) (of_word h Class.ReservedOp (codes "->") arrow is.2 refl) (below TyPlace.Whole to is.3)))
+    (put h.joins arrow (ty_items to) (of_text h Class.ReservedOp (codes "->") arrow is.2 refl) (below TyPlace.Whole to is.3)))
 ty_level {P} h levels below place (Ty-F.Tuple left parts right) is =
     subst P (sym (fold-roll-Ty (List Item) ty_layer (Ty-F.Tuple left parts right)
     ∙ ap (λ l. left ∷ (l ++ right ∷ [])) (flat_map-map (listed_items done) (λ (l : Listed Ty). record { part = ty_items l.part; separator = l.separator }) parts)))
     (h.parens left right (flat_map (listed_items ty_items) parts) is.0 is.3
-    (separated h.joins ty_items IsComma ((nodes levels).ty TyPlace.Whole) (comma (patterns_of h)) (below TyPlace.Whole) parts is.1))
+    (separated h.joins ty_items IsComma ((nodes levels).ty TyPlace.Whole) (comma (patterns_in h)) (below TyPlace.Whole) parts is.1))
 ty_level {P} h levels below place (Ty-F.List left part right) is =
-    subst P (sym (fold-roll-Ty (List Item) ty_layer (Ty-F.List left part right))) (h.squares left right (ty_items part) is.0 is.2 (h.inside (ty_items part) (below TyPlace.Whole part is.1)))
+    subst P (sym (fold-roll-Ty (List Item) ty_layer (Ty-F.List left part right))) (h.squares left right (ty_items part) is.0 is.2 (below TyPlace.Whole part is.1))
 ty_level {P} h levels below place (Ty-F.Group left part right) is =
     subst P (sym (fold-roll-Ty (List Item) ty_layer (Ty-F.Group left part right))) (h.parens left right (ty_items part) is.0 is.2 (below TyPlace.Whole part is.1))
 
-pub types_keep : {P Q : List Item → Type 0} → InTrees P Q → (levels : ℕ) (place : TyPlace) (ty : Ty) → (nodes levels).ty place ty → P (ty_items ty)
+pub types_keep : {P : List Item → Type 0} → InTypes P → (levels : ℕ) (place : TyPlace) (ty : Ty) → (nodes levels).ty place ty → P (ty_items ty)
 types_keep h zero place ty is = elim is [ ]
 types_keep {P} h (suc levels) place ty is = subst (λ t. P (ty_items t)) (roll-out-Ty ty) (ty_level h levels (types_keep h levels) place (out-Ty ty) is)
 

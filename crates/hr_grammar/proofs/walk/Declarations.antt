@@ -1,20 +1,13 @@
 -- What goes over from the parts of trees to the whole is true of each declaration, alternative and block, where
 -- it is of all that stands on the level below; so of all that stands on any level.
-use Rattle.std.proofs.Common.{◌≡◌, ◌+◌, ℕ, zero, suc, true, false, List, [], ◌∷◌, ◌++◌, length, Option, Some, None, refl, sym, ap, ◌∙◌, subst, inl, inr, arith}
+use Rattle.std.proofs.Common.{ℕ, zero, suc, true, false, List, [], ◌∷◌, ◌++◌, Option, Some, None, refl, sym, ap, ◌∙◌, subst}
 use Rattle.std.specs.List.{AllByRecursion, flat_map}
-use Rattle.std.proofs.lemmas.List.{append_assoc}
 use lib.Chars.{codes}
 use Rattle.hr_base.specs.declared.lexeme.Class.{Class}
 use Rattle.hr_base.specs.declared.lexeme.Item.{Item}
-use Rattle.hr_rules.specs.Names.{is_one_of}
 use Rattle.hr_tree.specs.declared.lists.Layout.{Layout}
 use Rattle.hr_tree.specs.declared.lists.Piece.{Piece}
 use Rattle.hr_tree.specs.declared.lists.Block.{Block}
-use Rattle.hr_tree.specs.declared.declarations.TypeHead.{TypeHead}
-use Rattle.hr_tree.specs.declared.declarations.Construction.{Construction}
-use Rattle.hr_tree.specs.declared.declarations.LeftSide.{LeftSide}
-use Rattle.hr_tree.specs.declared.declarations.LeftHead.{LeftHead}
-use Rattle.hr_tree.specs.declared.declarations.Closed.{Closed}
 use Rattle.hr_tree.specs.declared.declarations.Body.{Body}
 use Rattle.hr_tree.specs.declared.declarations.Guarded.{Guarded}
 use Rattle.hr_tree.specs.declared.declarations.Where.{Where}
@@ -25,23 +18,23 @@ use Rattle.hr_tree.specs.declared.expressions.Qualifier.{Qualifier}
 use Rattle.hr_tree.specs.declared.expressions.Decl.TheOpen.{Decl-F}
 use Rattle.hr_tree.specs.declared.expressions.Decl.TheFolds.{fold-roll-Decl}
 use Rattle.hr_tree.specs.declared.expressions.Decl.TheViews.{roll-out-Exp, roll-out-Decl, rolls-Equation, rolls-Binding}
-use Rattle.hr_tree.specs.Names.{constructor_items, variable_items, operator_items, maybe_item}
+use Rattle.hr_tree.specs.Names.{variable_items, operator_items, maybe_item}
 use Rattle.hr_tree.specs.Lists.{listed_items, piece_items, block_items, guarded_items, body_items, where_items}
-use Rattle.hr_tree.specs.Yields.{ty_items, pat_items, type_head_items, construction_items, left_head_items, closed_items, left_side_items, exp_layer, decl_layer, qualifier_layer, alt_layer, exp_items, decl_items, alt_items}
+use Rattle.hr_tree.specs.Yields.{ty_items, pat_items, type_head_items, construction_items, left_side_items, exp_layer, decl_layer, qualifier_layer, alt_layer, exp_items, decl_items, alt_items}
 use Rattle.hr_tree.proofs.ExpressionYields.{decl_equation, decl_binding, alt_whole}
-use Rattle.hr_grammar.specs.Words.{IsOf, IsComma, IsBar, IsEquals, IsArrow, IsLeftParen}
+use Rattle.hr_grammar.specs.Words.{IsComma, IsBar, IsEquals, IsArrow}
 use Rattle.hr_grammar.specs.Spelled.{IsVariable, IsOwnOperator}
 use Rattle.hr_grammar.specs.Nodes.{TyPlace, PatPlace, ExpPlace, DeclPlace}
-use Rattle.hr_grammar.specs.Declarations.{DeclProduction, IsConstructionOver, IsNewConstructionOver, IsLeftHeadOver, IsClosedOver, IsLeftSideOver, IsGuardedOver, IsBodyOver, IsWhereOver, IsTypeHead, IsDigit, fixity_words}
+use Rattle.hr_grammar.specs.Declarations.{DeclProduction, IsConstructionOver, IsGuardedOver, IsBodyOver, IsWhereOver, IsDigit}
 use Rattle.hr_grammar.specs.Blocks.{IsPiece, AreBraced}
 use Rattle.hr_grammar.specs.Yields.{nodes, AreDeclarationsOver}
-use Rattle.hr_phrases.proofs.Rules.{is_paired, Joins, InPatterns, InTrees}
-use Rattle.hr_phrases.proofs.Lists.{put, maybe, all_items, all_of, separated}
-use Rattle.hr_phrases.proofs.Tables.{one_of}
-use Rattle.hr_phrases.proofs.Names.{patterns_of, of_class, of_text, of_word, comma, own_constructor, own_operator, variable}
-use Rattle.hr_phrases.proofs.TypesAndPatterns.{types_keep, patterns_keep}
-use Rattle.hr_phrases.proofs.Imports.{import_keeps}
-use Rattle.hr_phrases.proofs.Expressions.{Below, before, exp_level}
+use Rattle.hr_grammar.proofs.walk.Rules.{Joins, InTrees}
+use Rattle.hr_grammar.proofs.walk.Lists.{put, maybe, all_of, separated}
+use Rattle.hr_grammar.proofs.walk.Names.{types_of, patterns_of, of_class, of_text, of_word, comma, own_operator, variable}
+use Rattle.hr_grammar.proofs.walk.TypesAndPatterns.{types_keep, patterns_keep}
+use Rattle.hr_grammar.proofs.walk.Heads.{type_head_keeps, construction_keeps, new_construction_keeps, left_side_keeps, fixity_keeps}
+use Rattle.hr_grammar.proofs.walk.Imports.{import_keeps}
+use Rattle.hr_grammar.proofs.walk.Expressions.{Below, before, exp_level}
 
 -- right sides
 guarded_keeps : {P Q : List Item → Type 0} → InTrees P Q → (levels : ℕ) → Below P levels → (IsMark : Item → Type 0) → ((item : Item) → IsMark item → P (item ∷ []))
@@ -66,103 +59,32 @@ equals h item is = of_word h Class.ReservedOp (codes "=") item is refl
 arrow_mark : {P Q : List Item → Type 0} → InTrees P Q → (item : Item) → IsArrow item → P (item ∷ [])
 arrow_mark h item is = of_word h Class.ReservedOp (codes "->") item is refl
 
--- heads of types and constructors
-type_head_keeps : {P Q : List Item → Type 0} → InTrees P Q → (head : TypeHead) → IsTypeHead head → P (type_head_items head)
-type_head_keeps h head is =
-    put h.joins head.name head.variables (of_class (patterns_of h) Class.ConId head.name is.0 refl)
-    (all_items h.joins (IsOf Class.VarId) (λ item o. of_class (patterns_of h) Class.VarId item o refl) head.variables is.1)
-
-construction_keeps : {P Q : List Item → Type 0} → InTrees P Q → (levels : ℕ) (construction : Construction) → IsConstructionOver (nodes levels) construction → P (construction_items construction)
-construction_keeps h levels (Construction.Prefix named types) is =
-    h.joins.join (constructor_items named) (flat_map ty_items types) (own_constructor (patterns_of h) named is.0) (all_of h.joins ty_items ((nodes levels).ty TyPlace.Atomic) (types_keep h levels TyPlace.Atomic) types is.1)
-construction_keeps h levels (Construction.Infix first sign second) is =
-    h.joins.join (ty_items first) (operator_items sign ++ ty_items second) (types_keep h levels TyPlace.Applied first is.0)
-    (h.joins.join (operator_items sign) (ty_items second) (own_operator (patterns_of h) sign (inr is.1.0)) (types_keep h levels TyPlace.Applied second is.1.1))
-construction_keeps h levels (Construction.Fields named left fields right) is = elim is [ ]
-
-new_construction_keeps : {P Q : List Item → Type 0} → InTrees P Q → (levels : ℕ) (construction : Construction) → IsNewConstructionOver (nodes levels) construction → P (construction_items construction)
-new_construction_keeps h levels (Construction.Prefix named []) is = elim is [ ]
-new_construction_keeps h levels (Construction.Prefix named (ty ∷ [])) is =
-    h.joins.join (constructor_items named) (ty_items ty ++ []) (own_constructor (patterns_of h) named is.0) (h.joins.join (ty_items ty) [] (types_keep h levels TyPlace.Atomic ty is.1) h.joins.nothing)
-new_construction_keeps h levels (Construction.Prefix named (ty ∷ (next ∷ types))) is = elim is [ ]
-new_construction_keeps h levels (Construction.Infix first sign second) is = elim is [ ]
-new_construction_keeps h levels (Construction.Fields named left fields right) is = elim is [ ]
-
--- left sides
-left_head_keeps : {P : List Item → Type 0} → InPatterns P → (levels : ℕ) (head : LeftHead) → IsLeftHeadOver (nodes levels) head → P (left_head_items head)
-left_head_keeps h levels (LeftHead.Prefix named patterns) is =
-    h.joins.join (variable_items named) (flat_map pat_items patterns) (variable h named is.0) (all_of h.joins pat_items ((nodes levels).pat PatPlace.Atomic) (patterns_keep h levels PatPlace.Atomic) patterns is.1.1)
-left_head_keeps h levels (LeftHead.Infix first sign second) is =
-    h.joins.join (pat_items first) (operator_items sign ++ pat_items second) (patterns_keep h levels PatPlace.Whole first is.0)
-    (h.joins.join (operator_items sign) (pat_items second) (own_operator h sign (inl is.1.0)) (patterns_keep h levels PatPlace.Whole second is.1.1))
-
--- items before others, the first of them next to the others
-abbrev turned : List Item → List Item → List Item
-turned [] ys = ys
-turned (x ∷ xs) ys = turned xs (x ∷ ys)
-
-turned_back : (xs ys zs : List Item) → turned (turned xs ys) zs ≡ turned ys (xs ++ zs)
-turned_back [] ys zs = refl
-turned_back (x ∷ xs) ys zs = turned_back xs (x ∷ ys) zs
-
-turned_length : (xs ys : List Item) → length (turned xs ys) ≡ length xs + length ys
-turned_length [] ys = omega arith
-turned_length (x ∷ xs) ys = omega (arith, turned_length xs (x ∷ ys))
-
-turned_all : (Is : Item → Type 0) (xs ys : List Item) → AllByRecursion Is xs → AllByRecursion Is ys → AllByRecursion Is (turned xs ys)
-turned_all Is [] ys p q = q
-turned_all Is (x ∷ xs) ys p q = turned_all Is xs (x ∷ ys) p.1 (p.0, q)
-
--- parentheses that close one by one what opened before, with patterns behind each
-closes_keep : {P : List Item → Type 0} → InPatterns P → (levels : ℕ) (opens inner : List Item) (closes : List Closed) → AllByRecursion IsLeftParen opens → P inner
-    → AllByRecursion (IsClosedOver (nodes levels)) closes → length opens ≡ length closes → P (turned opens (inner ++ flat_map closed_items closes))
-closes_keep h levels [] inner [] o p c e = h.joins.join inner [] p h.joins.nothing
-closes_keep h levels [] inner (closed ∷ closes) o p c e = let no : ⊥ = omega (arith, e) in elim no [ ]
-closes_keep h levels (open_one ∷ opens) inner [] o p c e = let no : ⊥ = omega (arith, e) in elim no [ ]
-closes_keep {P} h levels (left ∷ opens) inner (closed ∷ closes) o p c e =
-    subst (λ l. P (turned opens l))
-    (append_assoc (left ∷ (inner ++ closed.right ∷ [])) (flat_map pat_items closed.patterns) (flat_map closed_items closes)
-    ∙ ap (λ l. left ∷ l) (append_assoc inner (closed.right ∷ []) (flat_map pat_items closed.patterns ++ flat_map closed_items closes)))
-    (closes_keep h levels opens ((left ∷ (inner ++ closed.right ∷ [])) ++ flat_map pat_items closed.patterns) closes o.1
-    (h.joins.join (left ∷ (inner ++ closed.right ∷ [])) (flat_map pat_items closed.patterns) (h.parens left closed.right inner o.0 c.0.0 p)
-    (all_of h.joins pat_items ((nodes levels).pat PatPlace.Atomic) (patterns_keep h levels PatPlace.Atomic) closed.patterns c.0.1.1))
-    c.1 (omega (arith, e)))
-
-left_side_keeps : {P : List Item → Type 0} → InPatterns P → (levels : ℕ) (left : LeftSide) → IsLeftSideOver (nodes levels) left → P (left_side_items left)
-left_side_keeps {P} h levels left is =
-    subst P (turned_back left.opens [] (left_head_items left.head ++ flat_map closed_items left.closes))
-    (closes_keep h levels (turned left.opens []) (left_head_items left.head) left.closes (turned_all IsLeftParen left.opens [] is.0 tt) (left_head_keeps h levels left.head is.1.0) is.1.1.0
-    (let e : length (turned left.opens []) ≡ length left.closes = omega (arith, turned_length left.opens [], is.1.1.1) in e))
-
-fixity_word : (text : List ℕ) → is_one_of fixity_words text ≡ true → is_paired Class.ReservedId text ≡ false
-fixity_word text h = one_of (is_paired Class.ReservedId) fixity_words text (refl, (refl, (refl, tt))) h
-
 decl_level : {P Q : List Item → Type 0} → InTrees P Q → (levels : ℕ) → Below P levels → (place : DeclPlace) (layer : Decl-F Decl Exp Qualifier Alt) → DeclProduction (nodes levels) place layer → P (decl_items (roll-Decl layer))
 decl_level {P} h levels below place (Decl-F.Import import) is =
-    subst P (sym (fold-roll-Decl (List Item) (List Item) (List Item) (List Item) decl_layer exp_layer qualifier_layer alt_layer (Decl-F.Import import))) (import_keeps h import is.1)
+    subst P (sym (fold-roll-Decl (List Item) (List Item) (List Item) (List Item) decl_layer exp_layer qualifier_layer alt_layer (Decl-F.Import import))) (import_keeps (patterns_of h) import is.1)
 decl_level {P} h levels below place (Decl-F.Synonym word head sign ty) is =
     subst P (sym (fold-roll-Decl (List Item) (List Item) (List Item) (List Item) decl_layer exp_layer qualifier_layer alt_layer (Decl-F.Synonym word head sign ty)))
     (before h Class.ReservedId (codes "type") word (type_head_items head ++ sign ∷ ty_items ty) is.1 refl
-    (h.joins.join (type_head_items head) (sign ∷ ty_items ty) (type_head_keeps h head is.2) (put h.joins sign (ty_items ty) (equals h sign is.3) (types_keep h levels TyPlace.Whole ty is.4))))
+    (h.joins.join (type_head_items head) (sign ∷ ty_items ty) (type_head_keeps (patterns_of h) head is.2) (put h.joins sign (ty_items ty) (equals h sign is.3) (types_keep (types_of h) levels TyPlace.Whole ty is.4))))
 decl_level {P} h levels below place (Decl-F.Data word head sign constructions) is =
     subst P (sym (fold-roll-Decl (List Item) (List Item) (List Item) (List Item) decl_layer exp_layer qualifier_layer alt_layer (Decl-F.Data word head sign constructions)))
     (before h Class.ReservedId (codes "data") word (type_head_items head ++ sign ∷ flat_map (listed_items construction_items) constructions) is.1 refl
-    (h.joins.join (type_head_items head) (sign ∷ flat_map (listed_items construction_items) constructions) (type_head_keeps h head is.2)
+    (h.joins.join (type_head_items head) (sign ∷ flat_map (listed_items construction_items) constructions) (type_head_keeps (patterns_of h) head is.2)
     (put h.joins sign (flat_map (listed_items construction_items) constructions) (equals h sign is.3)
-    (separated h.joins construction_items IsBar (IsConstructionOver (nodes levels)) (λ item b. of_word h Class.ReservedOp (codes "|") item b refl) (construction_keeps h levels) constructions is.4))))
+    (separated h.joins construction_items IsBar (IsConstructionOver (nodes levels)) (λ item b. of_word h Class.ReservedOp (codes "|") item b refl) (construction_keeps (types_of h) levels) constructions is.4))))
 decl_level {P} h levels below place (Decl-F.Newtype word head sign construction) is =
     subst P (sym (fold-roll-Decl (List Item) (List Item) (List Item) (List Item) decl_layer exp_layer qualifier_layer alt_layer (Decl-F.Newtype word head sign construction)))
     (before h Class.ReservedId (codes "newtype") word (type_head_items head ++ sign ∷ construction_items construction) is.1 refl
-    (h.joins.join (type_head_items head) (sign ∷ construction_items construction) (type_head_keeps h head is.2)
-    (put h.joins sign (construction_items construction) (equals h sign is.3) (new_construction_keeps h levels construction is.4))))
+    (h.joins.join (type_head_items head) (sign ∷ construction_items construction) (type_head_keeps (patterns_of h) head is.2)
+    (put h.joins sign (construction_items construction) (equals h sign is.3) (new_construction_keeps (types_of h) levels construction is.4))))
 decl_level {P} h levels below place (Decl-F.Signature names mark ty) is =
     subst P (sym (fold-roll-Decl (List Item) (List Item) (List Item) (List Item) decl_layer exp_layer qualifier_layer alt_layer (Decl-F.Signature names mark ty)))
     (h.joins.join (flat_map (listed_items variable_items) names) (mark ∷ ty_items ty)
     (separated h.joins variable_items IsComma IsVariable (comma (patterns_of h)) (variable (patterns_of h)) names is.1)
-    (before h Class.ReservedOp (codes "::") mark (ty_items ty) is.3 refl (types_keep h levels TyPlace.Whole ty is.4)))
+    (before h Class.ReservedOp (codes "::") mark (ty_items ty) is.3 refl (types_keep (types_of h) levels TyPlace.Whole ty is.4)))
 decl_level {P} h levels below place (Decl-F.Fixity word level operators) is =
     subst P (sym (fold-roll-Decl (List Item) (List Item) (List Item) (List Item) decl_layer exp_layer qualifier_layer alt_layer (Decl-F.Fixity word level operators)))
-    (put h.joins word (maybe_item level ++ flat_map (listed_items operator_items) operators) (h.plain word (ap (λ c. is_paired c word.lexeme.text) is.1 ∙ fixity_word word.lexeme.text is.2))
+    (put h.joins word (maybe_item level ++ flat_map (listed_items operator_items) operators) (fixity_keeps (patterns_of h) word is.1 is.2)
     (h.joins.join (maybe_item level) (flat_map (listed_items operator_items) operators)
     (maybe h.joins IsDigit (λ item d. of_class (patterns_of h) Class.Integer item d.0 refl) level is.3)
     (separated h.joins operator_items IsComma IsOwnOperator (comma (patterns_of h)) (own_operator (patterns_of h)) operators is.4)))

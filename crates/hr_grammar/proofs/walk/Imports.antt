@@ -20,9 +20,9 @@ use Rattle.hr_grammar.specs.Words.{IsComma, IsImportWord}
 use Rattle.hr_grammar.specs.Spelled.{IsOwnConstructor}
 use Rattle.hr_grammar.specs.Imports.{AreMembers, IsNameList, IsExport, AreExports, IsImported, IsAlias, AreImportNames, IsImport}
 use Rattle.hr_grammar.specs.Yields.{IsHeader}
-use Rattle.hr_phrases.proofs.Rules.{InPatterns, InTrees}
-use Rattle.hr_phrases.proofs.Lists.{put, maybe, separated}
-use Rattle.hr_phrases.proofs.Names.{patterns_of, of_class, of_text, comma, large_name, own_constructor, variable, named_variable}
+use Rattle.hr_grammar.proofs.walk.Rules.{InPatterns, InTrees}
+use Rattle.hr_grammar.proofs.walk.Lists.{put, maybe, separated}
+use Rattle.hr_grammar.proofs.walk.Names.{patterns_of, of_class, of_text, of_word, comma, large_name, own_constructor, variable, named_variable}
 
 members_keep : {P : List Item → Type 0} → InPatterns P → (members : Option Members) → AreMembers members → P (maybe_members members)
 members_keep h None is = h.joins.nothing
@@ -56,8 +56,8 @@ import_names_keep h (Some names) is =
     (maybe h.joins (IsImportWord (codes "hiding")) (λ item w. of_text h Class.VarId (codes "hiding") item w refl) names.hiding is.0)
     (name_list_keeps h imported_items IsImported (imported_keeps h) names.list is.1)
 
-pub import_keeps : {P Q : List Item → Type 0} → InTrees P Q → (import : Import) → IsImport import → P (import_items import)
-import_keeps {P} {Q} t import is = let h : InPatterns P = patterns_of t in
+pub import_keeps : {P : List Item → Type 0} → InPatterns P → (import : Import) → IsImport import → P (import_items import)
+import_keeps h import is =
     put h.joins import.word (maybe_item import.qualified ++ import.«module» ∷ (maybe_alias import.alias ++ maybe_import_names import.names)) (of_text h Class.ReservedId (codes "import") import.word is.0 refl)
     (h.joins.join (maybe_item import.qualified) (import.«module» ∷ (maybe_alias import.alias ++ maybe_import_names import.names))
     (maybe h.joins (IsImportWord (codes "qualified")) (λ item w. of_text h Class.VarId (codes "qualified") item w refl) import.qualified is.1.0)
@@ -68,9 +68,14 @@ exports_keep : {P : List Item → Type 0} → InPatterns P → (exports : Option
 exports_keep h None is = h.joins.nothing
 exports_keep h (Some names) is = name_list_keeps h export_items IsExport (export_keeps h) names is
 
-pub header_keeps : {P : List Item → Type 0} → InPatterns P → (header : Option Header) → IsHeader header → P (header_items header)
+-- a header before its `where`
+pub header_front_keeps : {P : List Item → Type 0} → InPatterns P → (header : Header) → IsHeader (Some header) → P (header.word ∷ header.name ∷ maybe_exports header.exports)
+header_front_keeps h header is =
+    put h.joins header.word (header.name ∷ maybe_exports header.exports) (of_text h Class.ReservedId (codes "module") header.word is.0 refl)
+    (put h.joins header.name (maybe_exports header.exports) (of_class h Class.ConId header.name is.1.0 refl) (exports_keep h header.exports is.1.1.0))
+
+pub header_keeps : {P Q : List Item → Type 0} → InTrees P Q → (header : Option Header) → IsHeader header → P (header_items header)
 header_keeps h None is = h.joins.nothing
 header_keeps h (Some header) is =
-    put h.joins header.word (header.name ∷ (maybe_exports header.exports ++ header.opening ∷ [])) (of_text h Class.ReservedId (codes "module") header.word is.0 refl)
-    (put h.joins header.name (maybe_exports header.exports ++ header.opening ∷ []) (of_class h Class.ConId header.name is.1.0 refl)
-    (h.joins.join (maybe_exports header.exports) (header.opening ∷ []) (exports_keep h header.exports is.1.1.0) (of_text h Class.ReservedId (codes "where") header.opening is.1.1.1 refl)))
+    h.joins.join (header.word ∷ header.name ∷ maybe_exports header.exports) (header.opening ∷ []) (header_front_keeps (patterns_of h) header is)
+    (of_word h Class.ReservedId (codes "where") header.opening is.1.1.1 refl)

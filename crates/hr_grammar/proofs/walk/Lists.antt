@@ -8,7 +8,7 @@ use Rattle.hr_tree.specs.Names.{maybe_item, maybe_operator}
 use Rattle.hr_tree.specs.Lists.{listed_items}
 use Rattle.hr_grammar.specs.Spelled.{Maybe}
 use Rattle.hr_grammar.specs.Separated.{AreSeparated, There}
-use Rattle.hr_phrases.proofs.Rules.{Joins}
+use Rattle.hr_grammar.proofs.walk.Rules.{Joins}
 
 -- an item before others
 pub put : {P : List Item → Type 0} → Joins P → (item : Item) (items : List Item) → P (item ∷ []) → P items → P (item ∷ items)

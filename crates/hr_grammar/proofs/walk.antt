@@ -1,0 +1,11 @@
+pub mod Declarations
+pub mod Expressions
+pub mod Heads
+pub mod Imports
+pub mod Lists
+pub mod Modules
+pub mod Names
+pub mod Rules
+pub mod Tables
+pub mod TypesAndPatterns
+pub mod Without
