@@ -25,10 +25,11 @@ use Rattle.hr_grammar.specs.Nodes.{DeclPlace}
 use Rattle.hr_grammar.specs.Yields.{nodes, IsHeader, DeepYields}
 use Rattle.hr_grammar.specs.Spans.{Span, spans_of}
 use Rattle.hr_grammar.specs.Offside.{placed_among, lexemes_of, column_of, IsOffside, StandsAs, StandsWell, Offside}
+use Rattle.hr_grammar.proofs.walk.Imports.{header_front_keeps}
 use Rattle.hr_edges.specs.Openings.{opens_block, is_opening, behind_openings, starts_of}
 use Rattle.hr_edges.specs.Laws.{body_start, IsFirst, FirstBlocksAgree, FirstBlocksOfPartsAgree}
 use Rattle.hr_edges.proofs.Openings.{numbers_plain, numbers_opening, no_numbers, numbers_append}
-use Rattle.hr_edges.proofs.PlainParts.{header_front_plain}
+use Rattle.hr_edges.proofs.Plain.{plain_patterns}
 use Rattle.hr_edges.proofs.Bodies.{BeginsBody, body_begins}
 use Rattle.hr_edges.proofs.Modules.{blocks_begin_lem}
 
@@ -88,7 +89,7 @@ header_numbers header is =
     let front : List Item = header.word ∷ (header.name ∷ maybe_exports header.exports) in
     let opens : is_opening header.opening ≡ true = ap₂ opens_block is.1.1.1.0 is.1.1.1.1 in
     let long : suc (0 + length front) ≡ length (front ++ header.opening ∷ []) = (let e = length-append front (header.opening ∷ []) in omega (arith, e)) in
-    numbers_append 0 front (header.opening ∷ []) ∙ ap₂ (λ a b. a ++ b) (no_numbers 0 front (header_front_plain header is)) (numbers_opening (0 + length front) header.opening [] opens)
+    numbers_append 0 front (header.opening ∷ []) ∙ ap₂ (λ a b. a ++ b) (no_numbers 0 front (header_front_keeps plain_patterns header is)) (numbers_opening (0 + length front) header.opening [] opens)
     ∙ ap (λ n. n ∷ []) long
 
 -- the word `module` is no beginning of a body

@@ -1,6 +1,5 @@
 pub mod Openings
 pub mod Plain
-pub mod PlainParts
 pub mod Stretches
 pub mod PartStretches
 pub mod Modules

@@ -1,10 +1,9 @@
 -- Stretches of lexemes, one behind another, in lists and in blocks: they have as many lexemes as there are items,
 -- and their blocks begin behind the opening words, if those of their parts do.
-use Rattle.std.proofs.Common.{◌≡◌, ℕ, suc, ◌+◌, Bool, true, false, if◌then◌else◌, List, [], ◌∷◌, ◌++◌, length, map, Option, Some, None, refl, sym, ap, ap₂, ◌∙◌, subst, arith}
+use Rattle.std.proofs.Common.{◌≡◌, ℕ, suc, ◌+◌, Bool, true, false, if◌then◌else◌, List, [], ◌∷◌, ◌++◌, length, map, refl, sym, ap, ap₂, ◌∙◌, subst, arith}
 use Rattle.std.specs.List.{AllByRecursion, flat_map}
 use Rattle.std.proofs.lemmas.List.{length-append, map-append}
 use lib.Chars.{codes}
-use Rattle.hr_base.specs.declared.lexeme.Class.{Class}
 use Rattle.hr_base.specs.declared.lexeme.Ending.{Ending}
 use Rattle.hr_base.specs.declared.lexeme.Item.{Item}
 use Rattle.hr_rules.specs.declared.block.BlockKind.{BlockKind}
@@ -14,25 +13,16 @@ use Rattle.hr_tree.specs.declared.lists.Layout.{Layout}
 use Rattle.hr_tree.specs.declared.lists.Piece.{Piece}
 use Rattle.hr_tree.specs.Names.{maybe_item}
 use Rattle.hr_tree.specs.Lists.{listed_items, piece_items, block_items, opening_items, closing_items}
-use Rattle.hr_grammar.specs.Words.{IsText, IsSemicolon}
-use Rattle.hr_grammar.specs.Separated.{AreSeparated, There}
+use Rattle.hr_grammar.specs.Separated.{AreSeparated}
 use Rattle.hr_grammar.specs.Blocks.{IsPiece, AreBraced}
 use Rattle.hr_grammar.specs.Spans.{Laid, Span, bare, one, row, ending_as, ◌▷◌, listed_laid, piece_laid, column_inside, block_laid}
-use Rattle.hr_edges.specs.Openings.{opens_block, is_opening, behind_openings, IsPlain, ArePlain, starts_of, IsLaidBy}
+use Rattle.hr_grammar.proofs.walk.Lists.{absent, there}
+use Rattle.hr_edges.specs.Openings.{is_opening, behind_openings, IsPlain, ArePlain, starts_of, IsLaidBy}
+use Rattle.hr_edges.proofs.Plain.{special, plain_patterns}
 
 pub append_nothing : {T : Type 0} (xs : List T) → xs ++ [] ≡ xs
 append_nothing [] = refl
 append_nothing (x ∷ xs) = ap (λ l. x ∷ l) (append_nothing xs)
-
-pub plain_append : (xs ys : List Item) → ArePlain xs → ArePlain ys → ArePlain (xs ++ ys)
-plain_append [] ys p q = q
-plain_append (x ∷ xs) ys p q = (p.0, plain_append xs ys p.1 q)
-
-pub special_plain : (text : List ℕ) (item : Item) → IsText Class.Special text item → IsPlain item
-special_plain text item is = ap₂ opens_block is.0 is.1
-
-semicolon_plain : (item : Item) → IsSemicolon item → IsPlain item
-semicolon_plain item is = special_plain (codes ";") item is
 
 -- the numbers behind the opening words, by the first item
 pub numbers_plain : (n : ℕ) (item : Item) (items : List Item) → IsPlain item → behind_openings n (item ∷ items) ≡ behind_openings (suc n) items
@@ -108,26 +98,18 @@ pub all_by : {T : Type 0} (Is : T → Type 0) (of : T → List Item) (laid : T �
 all_by Is of laid each [] is = plain [] tt
 all_by Is of laid each (part ∷ parts) is = join (each part is.0) (all_by Is of laid each parts is.1)
 
-separator_plain : (Separates : Item → Type 0) → ((item : Item) → Separates item → IsPlain item) → (separator : Option Item) → There Separates separator → ArePlain (maybe_item separator)
-separator_plain Separates apart None is = elim is [ ]
-separator_plain Separates apart (Some item) is = (apart item is, tt)
-
-no_separator : (separator : Option Item) → separator ≡ None → ArePlain (maybe_item separator)
-no_separator None e = tt
-no_separator (Some item) e = let no : ⊥ = cc in elim no [ ]
-
 pub separated_by : {T : Type 0} (Separates : Item → Type 0) → ((item : Item) → Separates item → IsPlain item) → (Is : T → Type 0) (of : T → List Item) (laid : T → Laid) → ((part : T) → Is part → IsLaidBy (of part) (laid part))
     → (parts : List (Listed T)) → AreSeparated Separates Is parts → IsLaidBy (flat_map (listed_items of) parts) (row (map listed_laid (map (λ (l : Listed T). record { part = laid l.part; separator = l.separator }) parts)))
 separated_by Separates apart Is of laid each [] is = plain [] tt
-separated_by Separates apart Is of laid each (listed ∷ []) is = join (join (each listed.part is.0) (plain (maybe_item listed.separator) (no_separator listed.separator is.1))) (plain [] tt)
+separated_by Separates apart Is of laid each (listed ∷ []) is = join (join (each listed.part is.0) (plain (maybe_item listed.separator) (absent plain_patterns.joins listed.separator is.1))) (plain [] tt)
 separated_by Separates apart Is of laid each (listed ∷ (next ∷ rest)) is =
-    join (join (each listed.part is.0) (plain (maybe_item listed.separator) (separator_plain Separates apart listed.separator is.1.0))) (separated_by Separates apart Is of laid each (next ∷ rest) is.1.1)
+    join (join (each listed.part is.0) (plain (maybe_item listed.separator) (there plain_patterns.joins Separates (λ item s. (apart item s, tt)) listed.separator is.1.0))) (separated_by Separates apart Is of laid each (next ∷ rest) is.1.1)
 
 -- the pieces of a block
 pub piece_by : {T : Type 0} (Is : T → Type 0) (of : T → List Item) (laid : T → Laid) → ((part : T) → Is part → IsLaidBy (of part) (laid part))
     → (turn : Piece T → Piece Laid) → ((item : Item) → turn (Piece.Semicolon item) ≡ Piece.Semicolon item) → ((part : T) → turn (Piece.Part part) ≡ Piece.Part (laid part))
     → (piece : Piece T) → IsPiece Is piece → IsLaidBy (piece_items of piece) (piece_laid (turn piece))
-piece_by Is of laid each turn s p (Piece.Semicolon item) is = same refl (ap piece_laid (s item)) (ends_as Ending.Nothing (plain (item ∷ []) (semicolon_plain item is, tt)))
+piece_by Is of laid each turn s p (Piece.Semicolon item) is = same refl (ap piece_laid (s item)) (ends_as Ending.Nothing (plain (item ∷ []) (special (codes ";") item is, tt)))
 piece_by Is of laid each turn s p (Piece.Part part) is = same refl (ap piece_laid (p part)) (each part is)
 
 pub pieces_by : {T : Type 0} (Is : T → Type 0) (of : T → List Item) (laid : T → Laid) → ((part : T) → Is part → IsLaidBy (of part) (laid part))
@@ -138,11 +120,11 @@ pieces_by Is of laid each turn s p (piece ∷ pieces) is = join (piece_by Is of 
 
 opening_plain : {T : Type 0} (layout : Layout) (pieces : List (Piece T)) → AreBraced layout pieces → ArePlain (opening_items layout)
 opening_plain (Layout.Implicit col) pieces braced = tt
-opening_plain (Layout.Explicit left right) pieces braced = (special_plain (codes "{") left braced.0, tt)
+opening_plain (Layout.Explicit left right) pieces braced = (special (codes "{") left braced.0, tt)
 
 closing_plain : {T : Type 0} (layout : Layout) (pieces : List (Piece T)) → AreBraced layout pieces → ArePlain (closing_items layout)
 closing_plain (Layout.Implicit col) pieces braced = tt
-closing_plain (Layout.Explicit left right) pieces braced = (special_plain (codes "}") right braced.1.0, tt)
+closing_plain (Layout.Explicit left right) pieces braced = (special (codes "}") right braced.1.0, tt)
 
 -- a block in the braces that it has
 pub braced_by : {T : Type 0} (kind : BlockKind) (of : T → List Item) (turn : Piece T → Piece Laid) (block : Block T) → AreBraced block.layout block.pieces

@@ -24,18 +24,22 @@ use Rattle.hr_tree.specs.Names.{variable_items, operator_items, maybe_item}
 use Rattle.hr_tree.specs.Lists.{listed_items, piece_items, block_items, guarded_items, body_items, where_items}
 use Rattle.hr_tree.specs.Yields.{ty_items, pat_items, type_head_items, construction_items, left_side_items, import_items, exp_layer, decl_layer, qualifier_layer, alt_layer, exp_items, decl_items, alt_items}
 use Rattle.hr_tree.proofs.ExpressionYields.{decl_equation, decl_binding, alt_whole}
-use Rattle.hr_grammar.specs.Words.{IsEquals, IsArrow}
+use Rattle.hr_grammar.specs.Words.{IsComma, IsEquals, IsArrow}
 use Rattle.hr_grammar.specs.Spelled.{IsVariable, IsOwnOperator}
 use Rattle.hr_grammar.specs.Nodes.{TyPlace, PatPlace, ExpPlace, DeclPlace}
 use Rattle.hr_grammar.specs.Declarations.{DeclProduction, IsAltOver, IsGuardedOver, IsBodyOver, IsWhereOver, IsDigit}
 use Rattle.hr_grammar.specs.Blocks.{IsPiece}
 use Rattle.hr_grammar.specs.Yields.{nodes, AreDeclarationsOver, AreAlternativesOver}
 use Rattle.hr_grammar.specs.Spans.{Laid, row, piece_laid, guarded_laid, body_laid, right_side_laid, block_laid, exp_laid, decl_laid, qualifier_laid, alt_laid, laid_of}
+use Rattle.hr_grammar.proofs.walk.Lists.{maybe, separated}
+use Rattle.hr_grammar.proofs.walk.Names.{of_class, comma, variable, own_operator}
+use Rattle.hr_grammar.proofs.walk.TypesAndPatterns.{types_keep, patterns_keep}
+use Rattle.hr_grammar.proofs.walk.Heads.{type_head_keeps, constructions_keep, new_construction_keeps, left_side_keeps, fixity_keeps}
+use Rattle.hr_grammar.proofs.walk.Imports.{import_keeps}
 use Rattle.hr_edges.specs.Openings.{IsPlain, IsLaidBy}
 use Rattle.hr_edges.specs.Laws.{exp_stretch, alt_stretch}
 use Rattle.hr_edges.proofs.Openings.{append_nothing, same, plain, join, ends_as, IsBlockBy, opened, piece_by, pieces_by, braced_by}
-use Rattle.hr_edges.proofs.Plain.{of_text, of_class, variable, separated, types_plain, patterns_plain}
-use Rattle.hr_edges.proofs.PlainParts.{own_operator, maybe, type_head_plain, new_construction_plain, constructions_plain, left_side_plain, import_plain, fixity_word}
+use Rattle.hr_edges.proofs.Plain.{of_text, plain_types, plain_patterns}
 use Rattle.hr_edges.proofs.Stretches.{Below, token, opens, exp_level}
 
 -- right sides, as they are turned with their parts
@@ -84,46 +88,46 @@ arrow_plain item is = of_text Class.ReservedOp (codes "->") item is refl
 decl_level : (levels : ℕ) → Below levels → (place : DeclPlace) (layer : Decl-F Decl Exp Qualifier Alt) → DeclProduction (nodes levels) place layer → IsLaidBy (decl_items (roll-Decl layer)) (laid_of (roll-Decl layer))
 decl_level levels below place (Decl-F.Import import) is =
     same (fold-roll-Decl (List Item) (List Item) (List Item) (List Item) decl_layer exp_layer qualifier_layer alt_layer (Decl-F.Import import)) (fold-roll-Decl Laid Laid Laid Laid decl_laid exp_laid qualifier_laid alt_laid (Decl-F.Import import))
-    (ends_as Ending.Nothing (plain (import_items import) (import_plain import is.1)))
+    (ends_as Ending.Nothing (plain (import_items import) (import_keeps plain_patterns import is.1)))
 decl_level levels below place (Decl-F.Synonym word head equals ty) is =
     same (fold-roll-Decl (List Item) (List Item) (List Item) (List Item) decl_layer exp_layer qualifier_layer alt_layer (Decl-F.Synonym word head equals ty)) (fold-roll-Decl Laid Laid Laid Laid decl_laid exp_laid qualifier_laid alt_laid (Decl-F.Synonym word head equals ty))
-    (ends_as Ending.Nothing (join (token (codes "type") Class.ReservedId word is.1 refl) (join (plain (type_head_items head) (type_head_plain head is.2)) (join (token (codes "=") Class.ReservedOp equals is.3 refl) (plain (ty_items ty) (types_plain levels TyPlace.Whole ty is.4))))))
+    (ends_as Ending.Nothing (join (token (codes "type") Class.ReservedId word is.1 refl) (join (plain (type_head_items head) (type_head_keeps plain_patterns head is.2)) (join (token (codes "=") Class.ReservedOp equals is.3 refl) (plain (ty_items ty) (types_keep plain_types levels TyPlace.Whole ty is.4))))))
 decl_level levels below place (Decl-F.Data word head equals constructions) is =
     same (fold-roll-Decl (List Item) (List Item) (List Item) (List Item) decl_layer exp_layer qualifier_layer alt_layer (Decl-F.Data word head equals constructions)) (fold-roll-Decl Laid Laid Laid Laid decl_laid exp_laid qualifier_laid alt_laid (Decl-F.Data word head equals constructions))
-    (ends_as Ending.Nothing (join (token (codes "data") Class.ReservedId word is.1 refl) (join (plain (type_head_items head) (type_head_plain head is.2)) (join (token (codes "=") Class.ReservedOp equals is.3 refl) (plain (flat_map (listed_items construction_items) constructions) (constructions_plain levels constructions is.4))))))
+    (ends_as Ending.Nothing (join (token (codes "data") Class.ReservedId word is.1 refl) (join (plain (type_head_items head) (type_head_keeps plain_patterns head is.2)) (join (token (codes "=") Class.ReservedOp equals is.3 refl) (plain (flat_map (listed_items construction_items) constructions) (constructions_keep plain_types levels constructions is.4))))))
 decl_level levels below place (Decl-F.Newtype word head equals construction) is =
     same (fold-roll-Decl (List Item) (List Item) (List Item) (List Item) decl_layer exp_layer qualifier_layer alt_layer (Decl-F.Newtype word head equals construction)) (fold-roll-Decl Laid Laid Laid Laid decl_laid exp_laid qualifier_laid alt_laid (Decl-F.Newtype word head equals construction))
-    (ends_as Ending.Nothing (join (token (codes "newtype") Class.ReservedId word is.1 refl) (join (plain (type_head_items head) (type_head_plain head is.2)) (join (token (codes "=") Class.ReservedOp equals is.3 refl) (plain (construction_items construction) (new_construction_plain levels construction is.4))))))
+    (ends_as Ending.Nothing (join (token (codes "newtype") Class.ReservedId word is.1 refl) (join (plain (type_head_items head) (type_head_keeps plain_patterns head is.2)) (join (token (codes "=") Class.ReservedOp equals is.3 refl) (plain (construction_items construction) (new_construction_keeps plain_types levels construction is.4))))))
 decl_level levels below place (Decl-F.Signature names colons ty) is =
     same (fold-roll-Decl (List Item) (List Item) (List Item) (List Item) decl_layer exp_layer qualifier_layer alt_layer (Decl-F.Signature names colons ty)) (fold-roll-Decl Laid Laid Laid Laid decl_laid exp_laid qualifier_laid alt_laid (Decl-F.Signature names colons ty))
-    (ends_as Ending.Signature (join (plain (flat_map (listed_items variable_items) names) (separated variable_items IsVariable variable names is.1)) (join (token (codes "::") Class.ReservedOp colons is.3 refl) (plain (ty_items ty) (types_plain levels TyPlace.Whole ty is.4)))))
+    (ends_as Ending.Signature (join (plain (flat_map (listed_items variable_items) names) (separated plain_patterns.joins variable_items IsComma IsVariable (comma plain_patterns) (variable plain_patterns) names is.1)) (join (token (codes "::") Class.ReservedOp colons is.3 refl) (plain (ty_items ty) (types_keep plain_types levels TyPlace.Whole ty is.4)))))
 decl_level levels below place (Decl-F.Fixity word level operators) is =
     same (fold-roll-Decl (List Item) (List Item) (List Item) (List Item) decl_layer exp_layer qualifier_layer alt_layer (Decl-F.Fixity word level operators)) (fold-roll-Decl Laid Laid Laid Laid decl_laid exp_laid qualifier_laid alt_laid (Decl-F.Fixity word level operators))
-    (ends_as Ending.Fixity (join (plain (word ∷ []) (of_class Class.ReservedId word is.1 (fixity_word word.lexeme.text is.2), tt)) (join (plain (maybe_item level) (maybe IsDigit (λ item d. of_class Class.Integer item d.0 refl) level is.3)) (plain (flat_map (listed_items operator_items) operators) (separated operator_items IsOwnOperator own_operator operators is.4)))))
+    (ends_as Ending.Fixity (join (plain (word ∷ []) (fixity_keeps plain_patterns word is.1 is.2)) (join (plain (maybe_item level) (maybe plain_patterns.joins IsDigit (λ item d. of_class plain_patterns Class.Integer item d.0 refl) level is.3)) (plain (flat_map (listed_items operator_items) operators) (separated plain_patterns.joins operator_items IsComma IsOwnOperator (comma plain_patterns) (own_operator plain_patterns) operators is.4)))))
 decl_level levels below place (Decl-F.Equation left (Body.Plain mark body) None) is =
     same (ap decl_items (rolls-Equation left (Body.Plain mark body) None) ∙ decl_equation left (Body.Plain mark body) None) (fold-roll-Decl Laid Laid Laid Laid decl_laid exp_laid qualifier_laid alt_laid (Decl-F.Equation left (Body.Plain mark body) None))
-    (join (plain (left_side_items left) (left_side_plain levels left is.1)) (no_where (turned_body (Body.Plain mark body)) (body_by levels below IsEquals equals_plain (Body.Plain mark body) is.2)))
+    (join (plain (left_side_items left) (left_side_keeps plain_patterns levels left is.1)) (no_where (turned_body (Body.Plain mark body)) (body_by levels below IsEquals equals_plain (Body.Plain mark body) is.2)))
 decl_level levels below place (Decl-F.Equation left (Body.Plain mark body) (Some locals)) is =
     same (ap decl_items (rolls-Equation left (Body.Plain mark body) (Some locals)) ∙ decl_equation left (Body.Plain mark body) (Some locals)) (fold-roll-Decl Laid Laid Laid Laid decl_laid exp_laid qualifier_laid alt_laid (Decl-F.Equation left (Body.Plain mark body) (Some locals)))
-    (join (plain (left_side_items left) (left_side_plain levels left is.1)) (with_where levels below (turned_body (Body.Plain mark body)) (body_by levels below IsEquals equals_plain (Body.Plain mark body) is.2) locals is.3 _ (λ item. refl) (λ part. refl)))
+    (join (plain (left_side_items left) (left_side_keeps plain_patterns levels left is.1)) (with_where levels below (turned_body (Body.Plain mark body)) (body_by levels below IsEquals equals_plain (Body.Plain mark body) is.2) locals is.3 _ (λ item. refl) (λ part. refl)))
 decl_level levels below place (Decl-F.Equation left (Body.Guarded list) None) is =
     same (ap decl_items (rolls-Equation left (Body.Guarded list) None) ∙ decl_equation left (Body.Guarded list) None) (fold-roll-Decl Laid Laid Laid Laid decl_laid exp_laid qualifier_laid alt_laid (Decl-F.Equation left (Body.Guarded list) None))
-    (join (plain (left_side_items left) (left_side_plain levels left is.1)) (no_where (turned_body (Body.Guarded list)) (body_by levels below IsEquals equals_plain (Body.Guarded list) is.2)))
+    (join (plain (left_side_items left) (left_side_keeps plain_patterns levels left is.1)) (no_where (turned_body (Body.Guarded list)) (body_by levels below IsEquals equals_plain (Body.Guarded list) is.2)))
 decl_level levels below place (Decl-F.Equation left (Body.Guarded list) (Some locals)) is =
     same (ap decl_items (rolls-Equation left (Body.Guarded list) (Some locals)) ∙ decl_equation left (Body.Guarded list) (Some locals)) (fold-roll-Decl Laid Laid Laid Laid decl_laid exp_laid qualifier_laid alt_laid (Decl-F.Equation left (Body.Guarded list) (Some locals)))
-    (join (plain (left_side_items left) (left_side_plain levels left is.1)) (with_where levels below (turned_body (Body.Guarded list)) (body_by levels below IsEquals equals_plain (Body.Guarded list) is.2) locals is.3 _ (λ item. refl) (λ part. refl)))
+    (join (plain (left_side_items left) (left_side_keeps plain_patterns levels left is.1)) (with_where levels below (turned_body (Body.Guarded list)) (body_by levels below IsEquals equals_plain (Body.Guarded list) is.2) locals is.3 _ (λ item. refl) (λ part. refl)))
 decl_level levels below place (Decl-F.Binding pattern (Body.Plain mark body) None) is =
     same (ap decl_items (rolls-Binding pattern (Body.Plain mark body) None) ∙ decl_binding pattern (Body.Plain mark body) None) (fold-roll-Decl Laid Laid Laid Laid decl_laid exp_laid qualifier_laid alt_laid (Decl-F.Binding pattern (Body.Plain mark body) None))
-    (join (plain (pat_items pattern) (patterns_plain levels PatPlace.Whole pattern is.1)) (no_where (turned_body (Body.Plain mark body)) (body_by levels below IsEquals equals_plain (Body.Plain mark body) is.2)))
+    (join (plain (pat_items pattern) (patterns_keep plain_patterns levels PatPlace.Whole pattern is.1)) (no_where (turned_body (Body.Plain mark body)) (body_by levels below IsEquals equals_plain (Body.Plain mark body) is.2)))
 decl_level levels below place (Decl-F.Binding pattern (Body.Plain mark body) (Some locals)) is =
     same (ap decl_items (rolls-Binding pattern (Body.Plain mark body) (Some locals)) ∙ decl_binding pattern (Body.Plain mark body) (Some locals)) (fold-roll-Decl Laid Laid Laid Laid decl_laid exp_laid qualifier_laid alt_laid (Decl-F.Binding pattern (Body.Plain mark body) (Some locals)))
-    (join (plain (pat_items pattern) (patterns_plain levels PatPlace.Whole pattern is.1)) (with_where levels below (turned_body (Body.Plain mark body)) (body_by levels below IsEquals equals_plain (Body.Plain mark body) is.2) locals is.3 _ (λ item. refl) (λ part. refl)))
+    (join (plain (pat_items pattern) (patterns_keep plain_patterns levels PatPlace.Whole pattern is.1)) (with_where levels below (turned_body (Body.Plain mark body)) (body_by levels below IsEquals equals_plain (Body.Plain mark body) is.2) locals is.3 _ (λ item. refl) (λ part. refl)))
 decl_level levels below place (Decl-F.Binding pattern (Body.Guarded list) None) is =
     same (ap decl_items (rolls-Binding pattern (Body.Guarded list) None) ∙ decl_binding pattern (Body.Guarded list) None) (fold-roll-Decl Laid Laid Laid Laid decl_laid exp_laid qualifier_laid alt_laid (Decl-F.Binding pattern (Body.Guarded list) None))
-    (join (plain (pat_items pattern) (patterns_plain levels PatPlace.Whole pattern is.1)) (no_where (turned_body (Body.Guarded list)) (body_by levels below IsEquals equals_plain (Body.Guarded list) is.2)))
+    (join (plain (pat_items pattern) (patterns_keep plain_patterns levels PatPlace.Whole pattern is.1)) (no_where (turned_body (Body.Guarded list)) (body_by levels below IsEquals equals_plain (Body.Guarded list) is.2)))
 decl_level levels below place (Decl-F.Binding pattern (Body.Guarded list) (Some locals)) is =
     same (ap decl_items (rolls-Binding pattern (Body.Guarded list) (Some locals)) ∙ decl_binding pattern (Body.Guarded list) (Some locals)) (fold-roll-Decl Laid Laid Laid Laid decl_laid exp_laid qualifier_laid alt_laid (Decl-F.Binding pattern (Body.Guarded list) (Some locals)))
-    (join (plain (pat_items pattern) (patterns_plain levels PatPlace.Whole pattern is.1)) (with_where levels below (turned_body (Body.Guarded list)) (body_by levels below IsEquals equals_plain (Body.Guarded list) is.2) locals is.3 _ (λ item. refl) (λ part. refl)))
+    (join (plain (pat_items pattern) (patterns_keep plain_patterns levels PatPlace.Whole pattern is.1)) (with_where levels below (turned_body (Body.Guarded list)) (body_by levels below IsEquals equals_plain (Body.Guarded list) is.2) locals is.3 _ (λ item. refl) (λ part. refl)))
 
 -- an alternative is a record, which is opened
 alt_level : (levels : ℕ) → Below levels → (pattern : Pat) (body : Body Exp) (locals : Option (Where Decl))
@@ -131,16 +135,16 @@ alt_level : (levels : ℕ) → Below levels → (pattern : Pat) (body : Body Exp
     → IsLaidBy (pat_items pattern ++ (body_items exp_items body ++ where_items decl_items locals)) (alt_stretch (roll-Alt (record { pattern = pattern; body = body; locals = locals })))
 alt_level levels below pattern (Body.Plain mark body) None p q w =
     same refl (fold-roll-Alt Laid Laid Laid Laid decl_laid exp_laid qualifier_laid alt_laid (record { pattern = pattern; body = Body.Plain mark body; locals = None }))
-    (join (plain (pat_items pattern) (patterns_plain levels PatPlace.Whole pattern p)) (no_where (turned_body (Body.Plain mark body)) (body_by levels below IsArrow arrow_plain (Body.Plain mark body) q)))
+    (join (plain (pat_items pattern) (patterns_keep plain_patterns levels PatPlace.Whole pattern p)) (no_where (turned_body (Body.Plain mark body)) (body_by levels below IsArrow arrow_plain (Body.Plain mark body) q)))
 alt_level levels below pattern (Body.Plain mark body) (Some locals) p q w =
     same refl (fold-roll-Alt Laid Laid Laid Laid decl_laid exp_laid qualifier_laid alt_laid (record { pattern = pattern; body = Body.Plain mark body; locals = (Some locals) }))
-    (join (plain (pat_items pattern) (patterns_plain levels PatPlace.Whole pattern p)) (with_where levels below (turned_body (Body.Plain mark body)) (body_by levels below IsArrow arrow_plain (Body.Plain mark body) q) locals w _ (λ item. refl) (λ part. refl)))
+    (join (plain (pat_items pattern) (patterns_keep plain_patterns levels PatPlace.Whole pattern p)) (with_where levels below (turned_body (Body.Plain mark body)) (body_by levels below IsArrow arrow_plain (Body.Plain mark body) q) locals w _ (λ item. refl) (λ part. refl)))
 alt_level levels below pattern (Body.Guarded list) None p q w =
     same refl (fold-roll-Alt Laid Laid Laid Laid decl_laid exp_laid qualifier_laid alt_laid (record { pattern = pattern; body = Body.Guarded list; locals = None }))
-    (join (plain (pat_items pattern) (patterns_plain levels PatPlace.Whole pattern p)) (no_where (turned_body (Body.Guarded list)) (body_by levels below IsArrow arrow_plain (Body.Guarded list) q)))
+    (join (plain (pat_items pattern) (patterns_keep plain_patterns levels PatPlace.Whole pattern p)) (no_where (turned_body (Body.Guarded list)) (body_by levels below IsArrow arrow_plain (Body.Guarded list) q)))
 alt_level levels below pattern (Body.Guarded list) (Some locals) p q w =
     same refl (fold-roll-Alt Laid Laid Laid Laid decl_laid exp_laid qualifier_laid alt_laid (record { pattern = pattern; body = Body.Guarded list; locals = (Some locals) }))
-    (join (plain (pat_items pattern) (patterns_plain levels PatPlace.Whole pattern p)) (with_where levels below (turned_body (Body.Guarded list)) (body_by levels below IsArrow arrow_plain (Body.Guarded list) q) locals w _ (λ item. refl) (λ part. refl)))
+    (join (plain (pat_items pattern) (patterns_keep plain_patterns levels PatPlace.Whole pattern p)) (with_where levels below (turned_body (Body.Guarded list)) (body_by levels below IsArrow arrow_plain (Body.Guarded list) q) locals w _ (λ item. refl) (λ part. refl)))
 
 alt_by : (levels : ℕ) → Below levels → (alt : Alt) → IsAltOver (nodes levels) alt → IsLaidBy (alt_items alt) (alt_stretch alt)
 alt_by levels below alt is = same (alt_whole alt) (ap alt_stretch (sym (roll-out-Alt alt))) (alt_level levels below (out-Alt alt).pattern (out-Alt alt).body (out-Alt alt).locals is.0 is.1.0 is.1.1)

@@ -26,11 +26,13 @@ use Rattle.hr_grammar.specs.Nodes.{TyPlace, PatPlace, ExpPlace, DeclPlace}
 use Rattle.hr_grammar.specs.Expressions.{ExpProduction, QualifierProduction, IsQualifierOver, AreExpOperands, last_operand}
 use Rattle.hr_grammar.specs.Yields.{nodes}
 use Rattle.hr_grammar.specs.Spans.{Laid, one, row, operand_laid, block_laid, exp_laid, decl_laid, qualifier_laid, alt_laid, laid_of}
+use Rattle.hr_grammar.proofs.walk.Lists.{maybe, no_operator, all_of}
+use Rattle.hr_grammar.proofs.walk.Names.{minus, literal, constructor, named_variable, any_operator}
+use Rattle.hr_grammar.proofs.walk.TypesAndPatterns.{types_keep, patterns_keep}
 use Rattle.hr_edges.specs.Openings.{is_opening, opens_block, IsPlain, ArePlain, IsLaidBy}
 use Rattle.hr_edges.specs.Laws.{exp_stretch, qualifier_stretch, alt_stretch}
-use Rattle.hr_edges.proofs.Openings.{special_plain as special, same, plain, join, ends_as, IsBlockBy, join_block, opened, all_by, separated_by}
-use Rattle.hr_edges.proofs.Plain.{of_text, constructor, literal, all_of, types_plain, patterns_plain}
-use Rattle.hr_edges.proofs.PlainParts.{used, operator, maybe, minus, no_operator}
+use Rattle.hr_edges.proofs.Openings.{same, plain, join, ends_as, IsBlockBy, join_block, opened, all_by, separated_by}
+use Rattle.hr_edges.proofs.Plain.{of_text, special, plain_types, plain_patterns}
 
 -- one lexeme
 pub token : (text : List ℕ) (class : Class) (item : Item) → IsText class text item → opens_block class text ≡ false → IsLaidBy (item ∷ []) (one item)
@@ -65,16 +67,16 @@ operands : (levels : ℕ) → Below levels → (free : Bool) (last : ExpPlace) (
     → IsLaidBy (flat_map (operand_items exp_items) list) (row (map operand_laid (map turned_operand list)))
 operands levels below free last [] is = plain [] tt
 operands levels below free last (operand ∷ []) is =
-    join (join (plain (maybe_item operand.minus) (maybe IsMinus minus operand.minus is.0)) (join (below.exp free last operand.part is.1) (plain (maybe_operator operand.operator) (no_operator operand.operator is.2)))) (plain [] tt)
+    join (join (plain (maybe_item operand.minus) (maybe plain_patterns.joins IsMinus (minus plain_patterns) operand.minus is.0)) (join (below.exp free last operand.part is.1) (plain (maybe_operator operand.operator) (no_operator plain_patterns.joins operand.operator is.2)))) (plain [] tt)
 operands levels below free last (operand ∷ (next ∷ rest)) is =
-    join (join (plain (maybe_item operand.minus) (maybe IsMinus minus operand.minus is.0))
-    (join (below.exp free ExpPlace.Operand operand.part is.1) (plain (maybe_operator operand.operator) (subst (λ o. ArePlain (maybe_operator o)) (sym is.2.1) (operator is.2.0 is.2.2)))))
+    join (join (plain (maybe_item operand.minus) (maybe plain_patterns.joins IsMinus (minus plain_patterns) operand.minus is.0))
+    (join (below.exp free ExpPlace.Operand operand.part is.1) (plain (maybe_operator operand.operator) (subst (λ o. ArePlain (maybe_operator o)) (sym is.2.1) (any_operator plain_patterns is.2.0 is.2.2)))))
     (operands levels below free last (next ∷ rest) is.3)
 
 qualifier_level : (levels : ℕ) → Below levels → (layer : Qualifier-F Decl Exp Qualifier Alt) → QualifierProduction (nodes levels) layer → IsLaidBy (qualifier_items (roll-Qualifier layer)) (qualifier_stretch (roll-Qualifier layer))
 qualifier_level levels below (Qualifier-F.Generator pattern arrow part) is =
     same (ap qualifier_items (rolls-Generator pattern arrow part) ∙ qualifier_generator pattern arrow part) (fold-roll-Qualifier Laid Laid Laid Laid decl_laid exp_laid qualifier_laid alt_laid (Qualifier-F.Generator pattern arrow part))
-    (join (plain (pat_items pattern) (patterns_plain levels PatPlace.Whole pattern is.0)) (join (token (codes "<-") Class.ReservedOp arrow is.1 refl) (below.exp true ExpPlace.Whole part is.2)))
+    (join (plain (pat_items pattern) (patterns_keep plain_patterns levels PatPlace.Whole pattern is.0)) (join (token (codes "<-") Class.ReservedOp arrow is.1 refl) (below.exp true ExpPlace.Whole part is.2)))
 qualifier_level levels below (Qualifier-F.Locals word block) is =
     same (ap qualifier_items (rolls-Locals word block) ∙ qualifier_locals word block) (fold-roll-Qualifier Laid Laid Laid Laid decl_laid exp_laid qualifier_laid alt_laid (Qualifier-F.Locals word block))
     (opened word (opens (codes "let") word is.0 refl) (below.declarations BlockKind.Declarations DeclPlace.Local block is.1 _ (λ item. refl) (λ part. refl)))
@@ -87,11 +89,11 @@ qualifier levels below part is = subst (λ q. IsLaidBy (qualifier_items q) (qual
 
 pub exp_level : (levels : ℕ) → Below levels → (free : Bool) (place : ExpPlace) (layer : Exp-F Decl Exp Qualifier Alt) → ExpProduction (nodes levels) free place layer → IsLaidBy (exp_items (roll-Exp layer)) (exp_stretch (roll-Exp layer))
 exp_level levels below free place (Exp-F.Variable named) is =
-    same (fold-roll-Exp (List Item) (List Item) (List Item) (List Item) decl_layer exp_layer qualifier_layer alt_layer (Exp-F.Variable named)) (fold-roll-Exp Laid Laid Laid Laid decl_laid exp_laid qualifier_laid alt_laid (Exp-F.Variable named)) (plain (variable_items named) (used named is))
+    same (fold-roll-Exp (List Item) (List Item) (List Item) (List Item) decl_layer exp_layer qualifier_layer alt_layer (Exp-F.Variable named)) (fold-roll-Exp Laid Laid Laid Laid decl_laid exp_laid qualifier_laid alt_laid (Exp-F.Variable named)) (plain (variable_items named) (named_variable plain_patterns named is))
 exp_level levels below free place (Exp-F.Constructor named) is =
-    same (fold-roll-Exp (List Item) (List Item) (List Item) (List Item) decl_layer exp_layer qualifier_layer alt_layer (Exp-F.Constructor named)) (fold-roll-Exp Laid Laid Laid Laid decl_laid exp_laid qualifier_laid alt_laid (Exp-F.Constructor named)) (plain (constructor_items named) (constructor named is))
+    same (fold-roll-Exp (List Item) (List Item) (List Item) (List Item) decl_layer exp_layer qualifier_layer alt_layer (Exp-F.Constructor named)) (fold-roll-Exp Laid Laid Laid Laid decl_laid exp_laid qualifier_laid alt_laid (Exp-F.Constructor named)) (plain (constructor_items named) (constructor plain_patterns named is))
 exp_level levels below free place (Exp-F.Literal item) is =
-    same (fold-roll-Exp (List Item) (List Item) (List Item) (List Item) decl_layer exp_layer qualifier_layer alt_layer (Exp-F.Literal item)) (fold-roll-Exp Laid Laid Laid Laid decl_laid exp_laid qualifier_laid alt_laid (Exp-F.Literal item)) (plain (item ∷ []) (literal item is, tt))
+    same (fold-roll-Exp (List Item) (List Item) (List Item) (List Item) decl_layer exp_layer qualifier_layer alt_layer (Exp-F.Literal item)) (fold-roll-Exp Laid Laid Laid Laid decl_laid exp_laid qualifier_laid alt_laid (Exp-F.Literal item)) (plain (item ∷ []) (literal plain_patterns item is))
 exp_level levels below free place (Exp-F.Group left part right) is =
     same (ap exp_items (rolls-Group left part right) ∙ exp_group left part right) (fold-roll-Exp Laid Laid Laid Laid decl_laid exp_laid qualifier_laid alt_laid (Exp-F.Group left part right))
     (join (bracket (codes "(") left is.0) (join (below.exp true ExpPlace.Whole part is.1) (bracket (codes ")") right is.2)))
@@ -118,10 +120,10 @@ exp_level levels below free place (Exp-F.Comprehension left part bar qualifiers 
     (join (bracket (codes "[") left is.0) (join (below.exp true ExpPlace.Whole part is.1) (join (token (codes "|") Class.ReservedOp bar is.2 refl) (join (separated_by IsComma comma_plain (IsQualifierOver (nodes levels)) qualifier_items qualifier_stretch (qualifier levels below) qualifiers is.3) (bracket (codes "]") right is.5)))))
 exp_level levels below free place (Exp-F.LeftSection left part sign right) is =
     same (ap exp_items (rolls-LeftSection left part sign right) ∙ exp_left_section left part sign right) (fold-roll-Exp Laid Laid Laid Laid decl_laid exp_laid qualifier_laid alt_laid (Exp-F.LeftSection left part sign right))
-    (join (bracket (codes "(") left is.0) (join (below.exp true ExpPlace.Sequence part is.1) (join (plain (operator_items sign) (operator sign is.2)) (bracket (codes ")") right is.3))))
+    (join (bracket (codes "(") left is.0) (join (below.exp true ExpPlace.Sequence part is.1) (join (plain (operator_items sign) (any_operator plain_patterns sign is.2)) (bracket (codes ")") right is.3))))
 exp_level levels below free place (Exp-F.RightSection left sign part right) is =
     same (ap exp_items (rolls-RightSection left sign part right) ∙ exp_right_section left sign part right) (fold-roll-Exp Laid Laid Laid Laid decl_laid exp_laid qualifier_laid alt_laid (Exp-F.RightSection left sign part right))
-    (join (bracket (codes "(") left is.0) (join (plain (operator_items sign) (operator sign is.1)) (join (below.exp true ExpPlace.Sequence part is.3) (bracket (codes ")") right is.4))))
+    (join (bracket (codes "(") left is.0) (join (plain (operator_items sign) (any_operator plain_patterns sign is.1)) (join (below.exp true ExpPlace.Sequence part is.3) (bracket (codes ")") right is.4))))
 exp_level levels below free place (Exp-F.Apply atoms) is =
     same (ap exp_items (rolls-Apply atoms) ∙ exp_apply atoms) (fold-roll-Exp Laid Laid Laid Laid decl_laid exp_laid qualifier_laid alt_laid (Exp-F.Apply atoms))
     (all_by ((nodes levels).exp free ExpPlace.Atom) exp_items exp_stretch (below.exp free ExpPlace.Atom) atoms is.2)
@@ -130,7 +132,7 @@ exp_level levels below free place (Exp-F.Case word part of_word block) is =
     (ends_as (Ending.Closed true false) (join (token (codes "case") Class.ReservedId word is.1 refl) (join (below.exp free ExpPlace.Whole part is.2) (opened of_word (opens (codes "of") of_word is.3 refl) (below.alternatives block is.4 _ (λ item. refl) (λ alt. refl))))))
 exp_level levels below free place (Exp-F.Lambda mark patterns arrow body) is =
     same (ap exp_items (rolls-Lambda mark patterns arrow body) ∙ exp_lambda mark patterns arrow body) (fold-roll-Exp Laid Laid Laid Laid decl_laid exp_laid qualifier_laid alt_laid (Exp-F.Lambda mark patterns arrow body))
-    (join (token (codes "\\") Class.ReservedOp mark is.1 refl) (join (plain (flat_map pat_items patterns) (all_of pat_items ((nodes levels).pat PatPlace.Atomic) (patterns_plain levels PatPlace.Atomic) patterns is.3)) (join (token (codes "->") Class.ReservedOp arrow is.4 refl) (below.exp free ExpPlace.Whole body is.5))))
+    (join (token (codes "\\") Class.ReservedOp mark is.1 refl) (join (plain (flat_map pat_items patterns) (all_of plain_patterns.joins pat_items ((nodes levels).pat PatPlace.Atomic) (patterns_keep plain_patterns levels PatPlace.Atomic) patterns is.3)) (join (token (codes "->") Class.ReservedOp arrow is.4 refl) (below.exp free ExpPlace.Whole body is.5))))
 exp_level levels below free place (Exp-F.Let word block in_word body) is =
     same (ap exp_items (rolls-Let word block in_word body) ∙ exp_let word block in_word body) (fold-roll-Exp Laid Laid Laid Laid decl_laid exp_laid qualifier_laid alt_laid (Exp-F.Let word block in_word body))
     (opened word (opens (codes "let") word is.1 refl) (join_block (below.declarations BlockKind.Declarations DeclPlace.Local block is.2 _ (λ item. refl) (λ part. refl)) (join (token (codes "in") Class.ReservedId in_word is.3 refl) (below.exp free ExpPlace.Whole body is.4))))
@@ -142,5 +144,5 @@ exp_level levels below free place (Exp-F.Infix list) is =
     (operands levels below free (last_operand place) list is.2)
 exp_level levels below free place (Exp-F.Annotated part colons ty) is =
     same (ap exp_items (rolls-Annotated part colons ty) ∙ exp_annotated part colons ty) (fold-roll-Exp Laid Laid Laid Laid decl_laid exp_laid qualifier_laid alt_laid (Exp-F.Annotated part colons ty))
-    (ends_as (Ending.Annotated true false) (join (below.exp true ExpPlace.Annotated part is.2) (join (token (codes "::") Class.ReservedOp colons is.3 refl) (plain (ty_items ty) (types_plain levels TyPlace.Whole ty is.4)))))
+    (ends_as (Ending.Annotated true false) (join (below.exp true ExpPlace.Annotated part is.2) (join (token (codes "::") Class.ReservedOp colons is.3 refl) (plain (ty_items ty) (types_keep plain_types levels TyPlace.Whole ty is.4)))))
 exp_level levels below free place (Exp-F.Fields part left fields right) is = elim is [ ]

@@ -22,17 +22,17 @@ use Rattle.hr_tree.specs.Names.{variable_items, operator_items, maybe_item}
 use Rattle.hr_tree.specs.Lists.{listed_items, piece_items, block_items, guarded_items, body_items, where_items}
 use Rattle.hr_tree.specs.Yields.{ty_items, pat_items, type_head_items, construction_items, left_side_items, exp_layer, decl_layer, qualifier_layer, alt_layer, exp_items, decl_items, alt_items}
 use Rattle.hr_tree.proofs.ExpressionYields.{decl_equation, decl_binding, alt_whole}
-use Rattle.hr_grammar.specs.Words.{IsComma, IsBar, IsEquals, IsArrow}
+use Rattle.hr_grammar.specs.Words.{IsComma, IsEquals, IsArrow}
 use Rattle.hr_grammar.specs.Spelled.{IsVariable, IsOwnOperator}
 use Rattle.hr_grammar.specs.Nodes.{TyPlace, PatPlace, ExpPlace, DeclPlace}
-use Rattle.hr_grammar.specs.Declarations.{DeclProduction, IsConstructionOver, IsGuardedOver, IsBodyOver, IsWhereOver, IsDigit}
+use Rattle.hr_grammar.specs.Declarations.{DeclProduction, IsGuardedOver, IsBodyOver, IsWhereOver, IsDigit}
 use Rattle.hr_grammar.specs.Blocks.{IsPiece, AreBraced}
 use Rattle.hr_grammar.specs.Yields.{nodes, AreDeclarationsOver}
 use Rattle.hr_grammar.proofs.walk.Rules.{Joins, InTrees}
 use Rattle.hr_grammar.proofs.walk.Lists.{put, maybe, all_of, separated}
 use Rattle.hr_grammar.proofs.walk.Names.{types_of, patterns_of, of_class, of_text, of_word, comma, own_operator, variable}
 use Rattle.hr_grammar.proofs.walk.TypesAndPatterns.{types_keep, patterns_keep}
-use Rattle.hr_grammar.proofs.walk.Heads.{type_head_keeps, construction_keeps, new_construction_keeps, left_side_keeps, fixity_keeps}
+use Rattle.hr_grammar.proofs.walk.Heads.{type_head_keeps, constructions_keep, new_construction_keeps, left_side_keeps, fixity_keeps}
 use Rattle.hr_grammar.proofs.walk.Imports.{import_keeps}
 use Rattle.hr_grammar.proofs.walk.Expressions.{Below, before, exp_level}
 
@@ -71,7 +71,7 @@ decl_level {P} h levels below place (Decl-F.Data word head sign constructions) i
     (before h Class.ReservedId (codes "data") word (type_head_items head ++ sign ∷ flat_map (listed_items construction_items) constructions) is.1 refl
     (h.joins.join (type_head_items head) (sign ∷ flat_map (listed_items construction_items) constructions) (type_head_keeps (patterns_of h) head is.2)
     (put h.joins sign (flat_map (listed_items construction_items) constructions) (equals h sign is.3)
-    (separated h.joins construction_items IsBar (IsConstructionOver (nodes levels)) (λ item b. of_word h Class.ReservedOp (codes "|") item b refl) (construction_keeps (types_of h) levels) constructions is.4))))
+    (constructions_keep (types_of h) levels constructions is.4))))
 decl_level {P} h levels below place (Decl-F.Newtype word head sign construction) is =
     subst P (sym (fold-roll-Decl (List Item) (List Item) (List Item) (List Item) decl_layer exp_layer qualifier_layer alt_layer (Decl-F.Newtype word head sign construction)))
     (before h Class.ReservedId (codes "newtype") word (type_head_items head ++ sign ∷ construction_items construction) is.1 refl

@@ -3,25 +3,29 @@
 use Rattle.std.proofs.Common.{◌≡◌, ◌+◌, ℕ, Bool, true, false, List, [], ◌∷◌, ◌++◌, length, refl, ap, ◌∙◌, subst, inl, inr, arith}
 use Rattle.std.specs.List.{AllByRecursion, flat_map}
 use Rattle.std.proofs.lemmas.List.{append_assoc}
+use lib.Chars.{codes}
 use Rattle.hr_base.specs.declared.lexeme.Class.{Class}
 use Rattle.hr_base.specs.declared.lexeme.Item.{Item}
 use Rattle.hr_rules.specs.Names.{is_one_of}
+use Rattle.hr_tree.specs.declared.lists.Listed.{Listed}
 use Rattle.hr_tree.specs.declared.declarations.TypeHead.{TypeHead}
 use Rattle.hr_tree.specs.declared.declarations.Construction.{Construction}
 use Rattle.hr_tree.specs.declared.declarations.LeftSide.{LeftSide}
 use Rattle.hr_tree.specs.declared.declarations.LeftHead.{LeftHead}
 use Rattle.hr_tree.specs.declared.declarations.Closed.{Closed}
 use Rattle.hr_tree.specs.Names.{constructor_items, variable_items, operator_items}
+use Rattle.hr_tree.specs.Lists.{listed_items}
 use Rattle.hr_tree.specs.Yields.{ty_items, pat_items, type_head_items, construction_items, left_head_items, closed_items, left_side_items}
-use Rattle.hr_grammar.specs.Words.{IsOf, IsLeftParen}
+use Rattle.hr_grammar.specs.Words.{IsOf, IsBar, IsLeftParen}
+use Rattle.hr_grammar.specs.Separated.{AreSeparated}
 use Rattle.hr_grammar.specs.Nodes.{TyPlace, PatPlace}
 use Rattle.hr_grammar.specs.Declarations.{IsConstructionOver, IsNewConstructionOver, IsLeftHeadOver, IsClosedOver, IsLeftSideOver, IsTypeHead, fixity_words}
 use Rattle.hr_grammar.specs.Yields.{nodes}
 use Rattle.hr_grammar.specs.LeftOut.{left_out}
 use Rattle.hr_grammar.proofs.walk.Rules.{is_parting, InPatterns, InTypes}
-use Rattle.hr_grammar.proofs.walk.Lists.{put, all_items, all_of}
+use Rattle.hr_grammar.proofs.walk.Lists.{put, all_items, all_of, separated}
 use Rattle.hr_grammar.proofs.walk.Tables.{one_of}
-use Rattle.hr_grammar.proofs.walk.Names.{patterns_in, of_class, own_constructor, own_operator, variable}
+use Rattle.hr_grammar.proofs.walk.Names.{patterns_in, of_class, of_text, own_constructor, own_operator, variable}
 use Rattle.hr_grammar.proofs.walk.TypesAndPatterns.{types_keep, patterns_keep}
 
 -- heads of types and constructors
@@ -30,13 +34,17 @@ type_head_keeps h head is =
     put h.joins head.name head.variables (of_class h Class.ConId head.name is.0 refl)
     (all_items h.joins (IsOf Class.VarId) (λ item o. of_class h Class.VarId item o refl) head.variables is.1)
 
-pub construction_keeps : {P : List Item → Type 0} → InTypes P → (levels : ℕ) (construction : Construction) → IsConstructionOver (nodes levels) construction → P (construction_items construction)
+construction_keeps : {P : List Item → Type 0} → InTypes P → (levels : ℕ) (construction : Construction) → IsConstructionOver (nodes levels) construction → P (construction_items construction)
 construction_keeps h levels (Construction.Prefix named types) is =
     h.joins.join (constructor_items named) (flat_map ty_items types) (own_constructor (patterns_in h) named is.0) (all_of h.joins ty_items ((nodes levels).ty TyPlace.Atomic) (types_keep h levels TyPlace.Atomic) types is.1)
 construction_keeps h levels (Construction.Infix first sign second) is =
     h.joins.join (ty_items first) (operator_items sign ++ ty_items second) (types_keep h levels TyPlace.Applied first is.0)
     (h.joins.join (operator_items sign) (ty_items second) (own_operator (patterns_in h) sign (inr is.1.0)) (types_keep h levels TyPlace.Applied second is.1.1))
 construction_keeps h levels (Construction.Fields named left fields right) is = elim is [ ]
+
+pub constructions_keep : {P : List Item → Type 0} → InTypes P → (levels : ℕ) (list : List (Listed Construction)) → AreSeparated IsBar (IsConstructionOver (nodes levels)) list → P (flat_map (listed_items construction_items) list)
+constructions_keep h levels list is =
+    separated h.joins construction_items IsBar (IsConstructionOver (nodes levels)) (λ item b. of_text h Class.ReservedOp (codes "|") item b refl) (construction_keeps h levels) list is
 
 pub new_construction_keeps : {P : List Item → Type 0} → InTypes P → (levels : ℕ) (construction : Construction) → IsNewConstructionOver (nodes levels) construction → P (construction_items construction)
 new_construction_keeps h levels (Construction.Prefix named []) is = elim is [ ]
@@ -93,7 +101,7 @@ left_side_keeps {P} h levels left is =
     (let e : length (turned left.opens []) ≡ length left.closes = omega (arith, turned_length left.opens [], is.1.1.1) in e))
 
 -- a word of a fixity
-pub fixity_word : (test : Class → List ℕ → Bool) (word : Item) → AllByRecursion (λ text. test Class.ReservedId text ≡ false) fixity_words
+fixity_word : (test : Class → List ℕ → Bool) (word : Item) → AllByRecursion (λ text. test Class.ReservedId text ≡ false) fixity_words
     → IsOf Class.ReservedId word → is_one_of fixity_words word.lexeme.text ≡ true → test word.lexeme.class word.lexeme.text ≡ false
 fixity_word test word all is one = ap (λ c. test c word.lexeme.text) is ∙ one_of (test Class.ReservedId) fixity_words word.lexeme.text all one
 
