@@ -1,6 +1,6 @@
 -- What goes over from the parts of trees to the whole is true of each declaration, alternative and block, where
 -- it is of all that stands on the level below; so of all that stands on any level.
-use Rattle.std.proofs.Common.{ℕ, zero, suc, true, false, List, [], ◌∷◌, ◌++◌, Option, Some, None, refl, sym, ap, ◌∙◌, subst}
+use Rattle.std.proofs.Common.{ℕ, zero, suc, true, false, List, [], ◌∷◌, ◌++◌, Option, Some, None, refl, sym, subst}
 use Rattle.std.specs.List.{AllByRecursion, flat_map}
 use lib.Chars.{codes}
 use Rattle.hr_base.specs.declared.lexeme.Class.{Class}
@@ -12,22 +12,21 @@ use Rattle.hr_tree.specs.declared.declarations.Body.{Body}
 use Rattle.hr_tree.specs.declared.declarations.Guarded.{Guarded}
 use Rattle.hr_tree.specs.declared.declarations.Where.{Where}
 use Rattle.hr_tree.specs.declared.expressions.Exp.{Exp, out-Exp}
-use Rattle.hr_tree.specs.declared.expressions.Decl.{Decl, out-Decl, roll-Decl}
+use Rattle.hr_tree.specs.declared.expressions.Decl.{Decl, out-Decl}
 use Rattle.hr_tree.specs.declared.expressions.Alt.{Alt, out-Alt}
 use Rattle.hr_tree.specs.declared.expressions.Qualifier.{Qualifier}
 use Rattle.hr_tree.specs.declared.expressions.Decl.TheOpen.{Decl-F}
-use Rattle.hr_tree.specs.declared.expressions.Decl.TheFolds.{fold-roll-Decl}
-use Rattle.hr_tree.specs.declared.expressions.Decl.TheViews.{roll-out-Exp, roll-out-Decl, rolls-Equation, rolls-Binding}
 use Rattle.hr_tree.specs.Names.{variable_items, operator_items, maybe_item}
 use Rattle.hr_tree.specs.Lists.{listed_items, piece_items, block_items, guarded_items, body_items, where_items}
-use Rattle.hr_tree.specs.Yields.{ty_items, pat_items, type_head_items, construction_items, left_side_items, exp_layer, decl_layer, qualifier_layer, alt_layer, exp_items, decl_items, alt_items}
-use Rattle.hr_tree.proofs.ExpressionYields.{decl_equation, decl_binding, alt_whole}
+use Rattle.hr_tree.specs.Yields.{ty_items, pat_items, type_head_items, construction_items, left_side_items, exp_items, decl_items, alt_items}
 use Rattle.hr_grammar.specs.Words.{IsComma, IsEquals, IsArrow}
 use Rattle.hr_grammar.specs.Spelled.{IsVariable, IsOwnOperator}
 use Rattle.hr_grammar.specs.Nodes.{TyPlace, PatPlace, ExpPlace, DeclPlace}
 use Rattle.hr_grammar.specs.Declarations.{DeclProduction, IsGuardedOver, IsBodyOver, IsWhereOver, IsDigit}
 use Rattle.hr_grammar.specs.Blocks.{IsPiece, AreBraced}
 use Rattle.hr_grammar.specs.Yields.{nodes, AreDeclarationsOver}
+use Rattle.hr_grammar.specs.Joins.{decl_joined}
+use Rattle.hr_grammar.proofs.Joins.{yields_join_lem}
 use Rattle.hr_grammar.proofs.walk.Rules.{Joins, InTrees}
 use Rattle.hr_grammar.proofs.walk.Lists.{put, maybe, all_of, separated}
 use Rattle.hr_grammar.proofs.walk.Names.{types_of, patterns_of, of_class, of_text, of_word, comma, own_operator, variable}
@@ -59,47 +58,40 @@ equals h item is = of_word h Class.ReservedOp (codes "=") item is refl
 arrow_mark : {P Q : List Item → Type 0} → InTrees P Q → (item : Item) → IsArrow item → P (item ∷ [])
 arrow_mark h item is = of_word h Class.ReservedOp (codes "->") item is refl
 
-decl_level : {P Q : List Item → Type 0} → InTrees P Q → (levels : ℕ) → Below P levels → (place : DeclPlace) (layer : Decl-F Decl Exp Qualifier Alt) → DeclProduction (nodes levels) place layer → P (decl_items (roll-Decl layer))
+decl_level : {P Q : List Item → Type 0} → InTrees P Q → (levels : ℕ) → Below P levels → (place : DeclPlace) (layer : Decl-F Decl Exp Qualifier Alt) → DeclProduction (nodes levels) place layer → P (decl_joined layer)
 decl_level {P} h levels below place (Decl-F.Import import) is =
-    subst P (sym (fold-roll-Decl (List Item) (List Item) (List Item) (List Item) decl_layer exp_layer qualifier_layer alt_layer (Decl-F.Import import))) (import_keeps (patterns_of h) import is.1)
+    import_keeps (patterns_of h) import is.1
 decl_level {P} h levels below place (Decl-F.Synonym word head sign ty) is =
-    subst P (sym (fold-roll-Decl (List Item) (List Item) (List Item) (List Item) decl_layer exp_layer qualifier_layer alt_layer (Decl-F.Synonym word head sign ty)))
-    (before h Class.ReservedId (codes "type") word (type_head_items head ++ sign ∷ ty_items ty) is.1 refl
-    (h.joins.join (type_head_items head) (sign ∷ ty_items ty) (type_head_keeps (patterns_of h) head is.2) (put h.joins sign (ty_items ty) (equals h sign is.3) (types_keep (types_of h) levels TyPlace.Whole ty is.4))))
+    before h Class.ReservedId (codes "type") word (type_head_items head ++ sign ∷ ty_items ty) is.1 refl
+    (h.joins.join (type_head_items head) (sign ∷ ty_items ty) (type_head_keeps (patterns_of h) head is.2) (put h.joins sign (ty_items ty) (equals h sign is.3) (types_keep (types_of h) levels TyPlace.Whole ty is.4)))
 decl_level {P} h levels below place (Decl-F.Data word head sign constructions) is =
-    subst P (sym (fold-roll-Decl (List Item) (List Item) (List Item) (List Item) decl_layer exp_layer qualifier_layer alt_layer (Decl-F.Data word head sign constructions)))
-    (before h Class.ReservedId (codes "data") word (type_head_items head ++ sign ∷ flat_map (listed_items construction_items) constructions) is.1 refl
+    before h Class.ReservedId (codes "data") word (type_head_items head ++ sign ∷ flat_map (listed_items construction_items) constructions) is.1 refl
     (h.joins.join (type_head_items head) (sign ∷ flat_map (listed_items construction_items) constructions) (type_head_keeps (patterns_of h) head is.2)
     (put h.joins sign (flat_map (listed_items construction_items) constructions) (equals h sign is.3)
-    (constructions_keep (types_of h) levels constructions is.4))))
+    (constructions_keep (types_of h) levels constructions is.4)))
 decl_level {P} h levels below place (Decl-F.Newtype word head sign construction) is =
-    subst P (sym (fold-roll-Decl (List Item) (List Item) (List Item) (List Item) decl_layer exp_layer qualifier_layer alt_layer (Decl-F.Newtype word head sign construction)))
-    (before h Class.ReservedId (codes "newtype") word (type_head_items head ++ sign ∷ construction_items construction) is.1 refl
+    before h Class.ReservedId (codes "newtype") word (type_head_items head ++ sign ∷ construction_items construction) is.1 refl
     (h.joins.join (type_head_items head) (sign ∷ construction_items construction) (type_head_keeps (patterns_of h) head is.2)
-    (put h.joins sign (construction_items construction) (equals h sign is.3) (new_construction_keeps (types_of h) levels construction is.4))))
+    (put h.joins sign (construction_items construction) (equals h sign is.3) (new_construction_keeps (types_of h) levels construction is.4)))
 decl_level {P} h levels below place (Decl-F.Signature names mark ty) is =
-    subst P (sym (fold-roll-Decl (List Item) (List Item) (List Item) (List Item) decl_layer exp_layer qualifier_layer alt_layer (Decl-F.Signature names mark ty)))
-    (h.joins.join (flat_map (listed_items variable_items) names) (mark ∷ ty_items ty)
+    h.joins.join (flat_map (listed_items variable_items) names) (mark ∷ ty_items ty)
     (separated h.joins variable_items IsComma IsVariable (comma (patterns_of h)) (variable (patterns_of h)) names is.1)
-    (before h Class.ReservedOp (codes "::") mark (ty_items ty) is.3 refl (types_keep (types_of h) levels TyPlace.Whole ty is.4)))
+    (before h Class.ReservedOp (codes "::") mark (ty_items ty) is.3 refl (types_keep (types_of h) levels TyPlace.Whole ty is.4))
 decl_level {P} h levels below place (Decl-F.Fixity word level operators) is =
-    subst P (sym (fold-roll-Decl (List Item) (List Item) (List Item) (List Item) decl_layer exp_layer qualifier_layer alt_layer (Decl-F.Fixity word level operators)))
-    (put h.joins word (maybe_item level ++ flat_map (listed_items operator_items) operators) (fixity_keeps (patterns_of h) word is.1 is.2)
+    put h.joins word (maybe_item level ++ flat_map (listed_items operator_items) operators) (fixity_keeps (patterns_of h) word is.1 is.2)
     (h.joins.join (maybe_item level) (flat_map (listed_items operator_items) operators)
     (maybe h.joins IsDigit (λ item d. of_class (patterns_of h) Class.Integer item d.0 refl) level is.3)
-    (separated h.joins operator_items IsComma IsOwnOperator (comma (patterns_of h)) (own_operator (patterns_of h)) operators is.4)))
+    (separated h.joins operator_items IsComma IsOwnOperator (comma (patterns_of h)) (own_operator (patterns_of h)) operators is.4))
 decl_level {P} h levels below place (Decl-F.Equation left body locals) is =
-    subst P (sym (ap decl_items (rolls-Equation left body locals) ∙ decl_equation left body locals))
-    (h.joins.join (left_side_items left) (body_items exp_items body ++ where_items decl_items locals) (left_side_keeps (patterns_of h) levels left is.1)
-    (h.joins.join (body_items exp_items body) (where_items decl_items locals) (body_keeps h levels below IsEquals (equals h) body is.2) (where_keeps h levels below locals is.3)))
+    h.joins.join (left_side_items left) (body_items exp_items body ++ where_items decl_items locals) (left_side_keeps (patterns_of h) levels left is.1)
+    (h.joins.join (body_items exp_items body) (where_items decl_items locals) (body_keeps h levels below IsEquals (equals h) body is.2) (where_keeps h levels below locals is.3))
 decl_level {P} h levels below place (Decl-F.Binding pattern body locals) is =
-    subst P (sym (ap decl_items (rolls-Binding pattern body locals) ∙ decl_binding pattern body locals))
-    (h.joins.join (pat_items pattern) (body_items exp_items body ++ where_items decl_items locals) (patterns_keep (patterns_of h) levels PatPlace.Whole pattern is.1)
-    (h.joins.join (body_items exp_items body) (where_items decl_items locals) (body_keeps h levels below IsEquals (equals h) body is.2) (where_keeps h levels below locals is.3)))
+    h.joins.join (pat_items pattern) (body_items exp_items body ++ where_items decl_items locals) (patterns_keep (patterns_of h) levels PatPlace.Whole pattern is.1)
+    (h.joins.join (body_items exp_items body) (where_items decl_items locals) (body_keeps h levels below IsEquals (equals h) body is.2) (where_keeps h levels below locals is.3))
 
 alt_level : {P Q : List Item → Type 0} → InTrees P Q → (levels : ℕ) → Below P levels → (part : Alt) → (nodes (suc levels)).alt part → P (alt_items part)
 alt_level {P} h levels below part is =
-    subst P (sym (alt_whole part))
+    subst P (sym (yields_join_lem.alt part))
     (h.joins.join (pat_items (out-Alt part).pattern) (body_items exp_items (out-Alt part).body ++ where_items decl_items (out-Alt part).locals) (patterns_keep (patterns_of h) levels PatPlace.Whole (out-Alt part).pattern is.0)
     (h.joins.join (body_items exp_items (out-Alt part).body) (where_items decl_items (out-Alt part).locals) (body_keeps h levels below IsArrow (arrow_mark h) (out-Alt part).body is.1.0)
     (where_keeps h levels below (out-Alt part).locals is.1.1)))
@@ -139,8 +131,8 @@ levels_keep h zero = record {
   alternatives = λ block is. elim is [ ];
 }
 levels_keep {P} h (suc levels) = let below = levels_keep h levels in record {
-  exp = λ free place part is. subst (λ e. P (exp_items e)) (roll-out-Exp part) (exp_level h levels below free place (out-Exp part) is);
-  decl = λ place part is. subst (λ d. P (decl_items d)) (roll-out-Decl part) (decl_level h levels below place (out-Decl part) is);
+  exp = λ free place part is. subst P (sym (yields_join_lem.exp part)) (exp_level h levels below free place (out-Exp part) is);
+  decl = λ place part is. subst P (sym (yields_join_lem.decl part)) (decl_level h levels below place (out-Decl part) is);
   alt = alt_level h levels below;
   declarations = declarations_keep h levels below;
   alternatives = λ block is. pieces_keep h alt_items (nodes levels).alt below.alt block is.0 is.1;

@@ -1,6 +1,6 @@
 -- What goes over from the parts of trees to the whole is true of each expression and qualifier, where it is of
 -- all that stands on the level below.
-use Rattle.std.proofs.Common.{◌≡◌, ℕ, ◌||◌, Bool, true, false, List, [], ◌∷◌, ◌++◌, refl, sym, ap, ◌∙◌, subst}
+use Rattle.std.proofs.Common.{◌≡◌, ℕ, ◌||◌, Bool, true, false, List, [], ◌∷◌, ◌++◌, refl, sym, subst}
 use Rattle.std.specs.List.{flat_map}
 use Rattle.std.proofs.lemmas.List.{append_assoc}
 use lib.Chars.{codes}
@@ -8,22 +8,21 @@ use Rattle.hr_base.specs.declared.lexeme.Class.{Class}
 use Rattle.hr_base.specs.declared.lexeme.Item.{Item}
 use Rattle.hr_tree.specs.declared.lists.Operand.{Operand}
 use Rattle.hr_tree.specs.declared.lists.Block.{Block}
-use Rattle.hr_tree.specs.declared.expressions.Exp.{Exp, roll-Exp}
+use Rattle.hr_tree.specs.declared.expressions.Exp.{Exp}
 use Rattle.hr_tree.specs.declared.expressions.Decl.{Decl}
 use Rattle.hr_tree.specs.declared.expressions.Alt.{Alt}
-use Rattle.hr_tree.specs.declared.expressions.Qualifier.{Qualifier, out-Qualifier, roll-Qualifier}
+use Rattle.hr_tree.specs.declared.expressions.Qualifier.{Qualifier, out-Qualifier}
 use Rattle.hr_tree.specs.declared.expressions.Decl.TheOpen.{Exp-F, Qualifier-F}
-use Rattle.hr_tree.specs.declared.expressions.Decl.TheFolds.{fold-roll-Exp}
-use Rattle.hr_tree.specs.declared.expressions.Decl.TheViews.{roll-out-Qualifier, rolls-Group, rolls-Tuple, rolls-List, rolls-From, rolls-FromThen, rolls-FromTo, rolls-FromThenTo, rolls-Comprehension, rolls-LeftSection, rolls-RightSection, rolls-Apply, rolls-Infix, rolls-Annotated, rolls-Lambda, rolls-Let, rolls-If, rolls-Case, rolls-Generator, rolls-Locals, rolls-Test}
 use Rattle.hr_tree.specs.Names.{operator_items, maybe_item, maybe_operator}
 use Rattle.hr_tree.specs.Lists.{listed_items, operand_items, block_items}
-use Rattle.hr_tree.specs.Yields.{ty_items, pat_items, exp_layer, decl_layer, qualifier_layer, alt_layer, exp_items, decl_items, qualifier_items, alt_items}
-use Rattle.hr_tree.proofs.ExpressionYields.{exp_group, exp_tuple, exp_list, exp_from, exp_from_then, exp_from_to, exp_from_then_to, exp_comprehension, exp_left_section, exp_right_section, exp_apply, exp_infix, exp_annotated, exp_lambda, exp_let, exp_if, exp_case, qualifier_generator, qualifier_locals, qualifier_test}
+use Rattle.hr_tree.specs.Yields.{ty_items, pat_items, exp_items, decl_items, qualifier_items, alt_items}
 use Rattle.hr_grammar.specs.Words.{IsMinus, IsComma, IsDots}
 use Rattle.hr_grammar.specs.Nodes.{TyPlace, PatPlace, ExpPlace, DeclPlace}
 use Rattle.hr_grammar.specs.Expressions.{ExpProduction, QualifierProduction, IsQualifierOver, AreExpOperands, last_operand}
 use Rattle.hr_grammar.specs.Yields.{nodes}
+use Rattle.hr_grammar.specs.Joins.{exp_joined, qualifier_joined}
 use Rattle.hr_grammar.specs.LeftOut.{left_out}
+use Rattle.hr_grammar.proofs.Joins.{yields_join_lem}
 use Rattle.hr_grammar.proofs.walk.Rules.{is_paired, Joins, InTrees}
 use Rattle.hr_grammar.proofs.walk.Lists.{put, maybe, no_operator, all_of, separated}
 use Rattle.hr_grammar.proofs.walk.Names.{types_of, patterns_of, of_word, comma, minus, literal, constructor, named_variable, any_operator}
@@ -62,19 +61,17 @@ operands {P} h levels below free last (operand ∷ (next ∷ rest)) is =
 inside_joins : {P Q : List Item → Type 0} → InTrees P Q → Joins Q
 inside_joins h = record { nothing = h.inside [] h.joins.nothing; join = h.inside_join }
 
-qualifier_level : {P Q : List Item → Type 0} → InTrees P Q → (levels : ℕ) → Below P levels → (layer : Qualifier-F Decl Exp Qualifier Alt) → QualifierProduction (nodes levels) layer → Q (qualifier_items (roll-Qualifier layer))
+qualifier_level : {P Q : List Item → Type 0} → InTrees P Q → (levels : ℕ) → Below P levels → (layer : Qualifier-F Decl Exp Qualifier Alt) → QualifierProduction (nodes levels) layer → Q (qualifier_joined layer)
 qualifier_level {P} {Q} h levels below (Qualifier-F.Generator pattern arrow part) is =
-    subst Q (sym (ap qualifier_items (rolls-Generator pattern arrow part) ∙ qualifier_generator pattern arrow part))
-    (h.inside_join (pat_items pattern) (arrow ∷ exp_items part) (h.inside (pat_items pattern) (patterns_keep (patterns_of h) levels PatPlace.Whole pattern is.0))
-    (put (inside_joins h) arrow (exp_items part) (h.inside_arrow arrow is.1) (h.inside (exp_items part) (below.exp true ExpPlace.Whole part is.2))))
+    h.inside_join (pat_items pattern) (arrow ∷ exp_items part) (h.inside (pat_items pattern) (patterns_keep (patterns_of h) levels PatPlace.Whole pattern is.0))
+    (put (inside_joins h) arrow (exp_items part) (h.inside_arrow arrow is.1) (h.inside (exp_items part) (below.exp true ExpPlace.Whole part is.2)))
 qualifier_level {P} {Q} h levels below (Qualifier-F.Locals word block) is =
-    subst Q (sym (ap qualifier_items (rolls-Locals word block) ∙ qualifier_locals word block))
-    (put (inside_joins h) word (block_items decl_items block) (h.inside_let word is.0) (h.inside (block_items decl_items block) (below.declarations DeclPlace.Local block is.1)))
+    put (inside_joins h) word (block_items decl_items block) (h.inside_let word is.0) (h.inside (block_items decl_items block) (below.declarations DeclPlace.Local block is.1))
 qualifier_level {P} {Q} h levels below (Qualifier-F.Test part) is =
-    subst Q (sym (ap qualifier_items (rolls-Test part) ∙ qualifier_test part)) (h.inside (exp_items part) (below.exp true ExpPlace.Whole part is))
+    h.inside (exp_items part) (below.exp true ExpPlace.Whole part is)
 
 qualifier : {P Q : List Item → Type 0} → InTrees P Q → (levels : ℕ) → Below P levels → (part : Qualifier) → IsQualifierOver (nodes levels) part → Q (qualifier_items part)
-qualifier {P} {Q} h levels below part is = subst (λ q. Q (qualifier_items q)) (roll-out-Qualifier part) (qualifier_level h levels below (out-Qualifier part) is)
+qualifier {P} {Q} h levels below part is = subst Q (sym (yields_join_lem.qualifier part)) (qualifier_level h levels below (out-Qualifier part) is)
 
 -- a comma or a mark inside of square brackets, before items
 inside_put : {P Q : List Item → Type 0} → InTrees P Q → (item : Item) (items : List Item) → P (item ∷ []) → Q items → Q (item ∷ items)
@@ -89,89 +86,75 @@ bracketed_three : (P : List Item → Type 0) (left : Item) (xs : List Item) (ite
 bracketed_three P left xs item ys zs right p =
     subst (λ l. P (left ∷ (xs ++ item ∷ l))) (append_assoc ys zs (right ∷ [])) (bracketed P left xs (item ∷ (ys ++ zs)) right p)
 
-pub exp_level : {P Q : List Item → Type 0} → InTrees P Q → (levels : ℕ) → Below P levels → (free : Bool) (place : ExpPlace) (layer : Exp-F Decl Exp Qualifier Alt) → ExpProduction (nodes levels) free place layer → P (exp_items (roll-Exp layer))
+pub exp_level : {P Q : List Item → Type 0} → InTrees P Q → (levels : ℕ) → Below P levels → (free : Bool) (place : ExpPlace) (layer : Exp-F Decl Exp Qualifier Alt) → ExpProduction (nodes levels) free place layer → P (exp_joined layer)
 exp_level {P} h levels below free place (Exp-F.Variable named) is =
-    subst P (sym (fold-roll-Exp (List Item) (List Item) (List Item) (List Item) decl_layer exp_layer qualifier_layer alt_layer (Exp-F.Variable named))) (named_variable (patterns_of h) named is)
+    named_variable (patterns_of h) named is
 exp_level {P} h levels below free place (Exp-F.Constructor named) is =
-    subst P (sym (fold-roll-Exp (List Item) (List Item) (List Item) (List Item) decl_layer exp_layer qualifier_layer alt_layer (Exp-F.Constructor named))) (constructor (patterns_of h) named is)
+    constructor (patterns_of h) named is
 exp_level {P} h levels below free place (Exp-F.Literal item) is =
-    subst P (sym (fold-roll-Exp (List Item) (List Item) (List Item) (List Item) decl_layer exp_layer qualifier_layer alt_layer (Exp-F.Literal item))) (literal (patterns_of h) item is)
+    literal (patterns_of h) item is
 exp_level {P} h levels below free place (Exp-F.Group left part right) is =
-    subst P (sym (ap exp_items (rolls-Group left part right) ∙ exp_group left part right)) (h.parens left right (exp_items part) is.0 is.2 (below.exp true ExpPlace.Whole part is.1))
+    h.parens left right (exp_items part) is.0 is.2 (below.exp true ExpPlace.Whole part is.1)
 exp_level {P} h levels below free place (Exp-F.Tuple left parts right) is =
-    subst P (sym (ap exp_items (rolls-Tuple left parts right) ∙ exp_tuple left parts right))
-    (h.parens left right (flat_map (listed_items exp_items) parts) is.0 is.3
-    (separated h.joins exp_items IsComma ((nodes levels).exp true ExpPlace.Whole) (comma (patterns_of h)) (below.exp true ExpPlace.Whole) parts is.1))
+    h.parens left right (flat_map (listed_items exp_items) parts) is.0 is.3
+    (separated h.joins exp_items IsComma ((nodes levels).exp true ExpPlace.Whole) (comma (patterns_of h)) (below.exp true ExpPlace.Whole) parts is.1)
 exp_level {P} h levels below free place (Exp-F.List left parts right) is =
-    subst P (sym (ap exp_items (rolls-List left parts right) ∙ exp_list left parts right))
-    (h.squares left right (flat_map (listed_items exp_items) parts) is.0 is.3 (h.inside (flat_map (listed_items exp_items) parts)
-    (separated h.joins exp_items IsComma ((nodes levels).exp true ExpPlace.Whole) (comma (patterns_of h)) (below.exp true ExpPlace.Whole) parts is.1)))
+    h.squares left right (flat_map (listed_items exp_items) parts) is.0 is.3 (h.inside (flat_map (listed_items exp_items) parts)
+    (separated h.joins exp_items IsComma ((nodes levels).exp true ExpPlace.Whole) (comma (patterns_of h)) (below.exp true ExpPlace.Whole) parts is.1))
 exp_level {P} h levels below free place (Exp-F.From left first mark right) is =
-    subst P (sym (ap exp_items (rolls-From left first mark right) ∙ exp_from left first mark right))
-    (bracketed P left (exp_items first) (mark ∷ []) right (h.squares left right (exp_items first ++ mark ∷ []) is.0 is.3 (h.inside (exp_items first ++ mark ∷ [])
-    (h.joins.join (exp_items first) (mark ∷ []) (below.exp true ExpPlace.Whole first is.1) (dots h mark is.2)))))
+    bracketed P left (exp_items first) (mark ∷ []) right (h.squares left right (exp_items first ++ mark ∷ []) is.0 is.3 (h.inside (exp_items first ++ mark ∷ [])
+    (h.joins.join (exp_items first) (mark ∷ []) (below.exp true ExpPlace.Whole first is.1) (dots h mark is.2))))
 exp_level {P} h levels below free place (Exp-F.FromThen left first sign second mark right) is =
-    subst P (sym (ap exp_items (rolls-FromThen left first sign second mark right) ∙ exp_from_then left first sign second mark right))
-    (bracketed_three P left (exp_items first) sign (exp_items second) (mark ∷ []) right
+    bracketed_three P left (exp_items first) sign (exp_items second) (mark ∷ []) right
     (h.squares left right (exp_items first ++ sign ∷ (exp_items second ++ mark ∷ [])) is.0 is.5 (h.inside (exp_items first ++ sign ∷ (exp_items second ++ mark ∷ []))
     (h.joins.join (exp_items first) (sign ∷ (exp_items second ++ mark ∷ [])) (below.exp true ExpPlace.Whole first is.1)
     (put h.joins sign (exp_items second ++ mark ∷ []) (comma (patterns_of h) sign is.2)
-    (h.joins.join (exp_items second) (mark ∷ []) (below.exp true ExpPlace.Whole second is.3) (dots h mark is.4)))))))
+    (h.joins.join (exp_items second) (mark ∷ []) (below.exp true ExpPlace.Whole second is.3) (dots h mark is.4))))))
 exp_level {P} h levels below free place (Exp-F.FromTo left first mark last right) is =
-    subst P (sym (ap exp_items (rolls-FromTo left first mark last right) ∙ exp_from_to left first mark last right))
-    (bracketed P left (exp_items first) (mark ∷ exp_items last) right (h.squares left right (exp_items first ++ mark ∷ exp_items last) is.0 is.4 (h.inside (exp_items first ++ mark ∷ exp_items last)
+    bracketed P left (exp_items first) (mark ∷ exp_items last) right (h.squares left right (exp_items first ++ mark ∷ exp_items last) is.0 is.4 (h.inside (exp_items first ++ mark ∷ exp_items last)
     (h.joins.join (exp_items first) (mark ∷ exp_items last) (below.exp true ExpPlace.Whole first is.1)
-    (put h.joins mark (exp_items last) (dots h mark is.2) (below.exp true ExpPlace.Whole last is.3))))))
+    (put h.joins mark (exp_items last) (dots h mark is.2) (below.exp true ExpPlace.Whole last is.3)))))
 exp_level {P} h levels below free place (Exp-F.FromThenTo left first sign second mark last right) is =
-    subst P (sym (ap exp_items (rolls-FromThenTo left first sign second mark last right) ∙ exp_from_then_to left first sign second mark last right))
-    (bracketed_three P left (exp_items first) sign (exp_items second) (mark ∷ exp_items last) right
+    bracketed_three P left (exp_items first) sign (exp_items second) (mark ∷ exp_items last) right
     (h.squares left right (exp_items first ++ sign ∷ (exp_items second ++ mark ∷ exp_items last)) is.0 is.6 (h.inside (exp_items first ++ sign ∷ (exp_items second ++ mark ∷ exp_items last))
     (h.joins.join (exp_items first) (sign ∷ (exp_items second ++ mark ∷ exp_items last)) (below.exp true ExpPlace.Whole first is.1)
     (put h.joins sign (exp_items second ++ mark ∷ exp_items last) (comma (patterns_of h) sign is.2)
     (h.joins.join (exp_items second) (mark ∷ exp_items last) (below.exp true ExpPlace.Whole second is.3)
-    (put h.joins mark (exp_items last) (dots h mark is.4) (below.exp true ExpPlace.Whole last is.5))))))))
+    (put h.joins mark (exp_items last) (dots h mark is.4) (below.exp true ExpPlace.Whole last is.5)))))))
 exp_level {P} {Q} h levels below free place (Exp-F.Comprehension left part bar qualifiers right) is =
-    subst P (sym (ap exp_items (rolls-Comprehension left part bar qualifiers right) ∙ exp_comprehension left part bar qualifiers right))
-    (bracketed P left (exp_items part) (bar ∷ flat_map (listed_items qualifier_items) qualifiers) right
+    bracketed P left (exp_items part) (bar ∷ flat_map (listed_items qualifier_items) qualifiers) right
     (h.squares left right (exp_items part ++ bar ∷ flat_map (listed_items qualifier_items) qualifiers) is.0 is.5
     (h.inside_join (exp_items part) (bar ∷ flat_map (listed_items qualifier_items) qualifiers) (h.inside (exp_items part) (below.exp true ExpPlace.Whole part is.1))
     (inside_put h bar (flat_map (listed_items qualifier_items) qualifiers) (of_word h Class.ReservedOp (codes "|") bar is.2 refl)
-    (separated (inside_joins h) qualifier_items IsComma (IsQualifierOver (nodes levels)) (λ item c. h.inside (item ∷ []) (comma (patterns_of h) item c)) (qualifier h levels below) qualifiers is.3)))))
+    (separated (inside_joins h) qualifier_items IsComma (IsQualifierOver (nodes levels)) (λ item c. h.inside (item ∷ []) (comma (patterns_of h) item c)) (qualifier h levels below) qualifiers is.3))))
 exp_level {P} h levels below free place (Exp-F.LeftSection left part sign right) is =
-    subst P (sym (ap exp_items (rolls-LeftSection left part sign right) ∙ exp_left_section left part sign right))
-    (bracketed P left (exp_items part) (operator_items sign) right (h.parens left right (exp_items part ++ operator_items sign) is.0 is.3
-    (h.joins.join (exp_items part) (operator_items sign) (below.exp true ExpPlace.Sequence part is.1) (any_operator (patterns_of h) sign is.2))))
+    bracketed P left (exp_items part) (operator_items sign) right (h.parens left right (exp_items part ++ operator_items sign) is.0 is.3
+    (h.joins.join (exp_items part) (operator_items sign) (below.exp true ExpPlace.Sequence part is.1) (any_operator (patterns_of h) sign is.2)))
 exp_level {P} h levels below free place (Exp-F.RightSection left sign part right) is =
-    subst P (sym (ap exp_items (rolls-RightSection left sign part right) ∙ exp_right_section left sign part right))
-    (bracketed P left (operator_items sign) (exp_items part) right (h.parens left right (operator_items sign ++ exp_items part) is.0 is.4
-    (h.joins.join (operator_items sign) (exp_items part) (any_operator (patterns_of h) sign is.1) (below.exp true ExpPlace.Sequence part is.3))))
+    bracketed P left (operator_items sign) (exp_items part) right (h.parens left right (operator_items sign ++ exp_items part) is.0 is.4
+    (h.joins.join (operator_items sign) (exp_items part) (any_operator (patterns_of h) sign is.1) (below.exp true ExpPlace.Sequence part is.3)))
 exp_level {P} h levels below free place (Exp-F.Apply atoms) is =
-    subst P (sym (ap exp_items (rolls-Apply atoms) ∙ exp_apply atoms)) (all_of h.joins exp_items ((nodes levels).exp free ExpPlace.Atom) (below.exp free ExpPlace.Atom) atoms is.2)
+    all_of h.joins exp_items ((nodes levels).exp free ExpPlace.Atom) (below.exp free ExpPlace.Atom) atoms is.2
 exp_level {P} h levels below free place (Exp-F.Case word part of_sign block) is =
-    subst P (sym (ap exp_items (rolls-Case word part of_sign block) ∙ exp_case word part of_sign block))
-    (before h Class.ReservedId (codes "case") word (exp_items part ++ of_sign ∷ block_items alt_items block) is.1 refl
+    before h Class.ReservedId (codes "case") word (exp_items part ++ of_sign ∷ block_items alt_items block) is.1 refl
     (h.joins.join (exp_items part) (of_sign ∷ block_items alt_items block) (below.exp free ExpPlace.Whole part is.2)
-    (before h Class.ReservedId (codes "of") of_sign (block_items alt_items block) is.3 refl (below.alternatives block is.4))))
+    (before h Class.ReservedId (codes "of") of_sign (block_items alt_items block) is.3 refl (below.alternatives block is.4)))
 exp_level {P} h levels below free place (Exp-F.Lambda mark patterns arrow body) is =
-    subst P (sym (ap exp_items (rolls-Lambda mark patterns arrow body) ∙ exp_lambda mark patterns arrow body))
-    (before h Class.ReservedOp (codes "\\") mark (flat_map pat_items patterns ++ arrow ∷ exp_items body) is.1 refl
+    before h Class.ReservedOp (codes "\\") mark (flat_map pat_items patterns ++ arrow ∷ exp_items body) is.1 refl
     (h.joins.join (flat_map pat_items patterns) (arrow ∷ exp_items body)
     (all_of h.joins pat_items ((nodes levels).pat PatPlace.Atomic) (patterns_keep (patterns_of h) levels PatPlace.Atomic) patterns is.3)
-    (before h Class.ReservedOp (codes "->") arrow (exp_items body) is.4 refl (below.exp free ExpPlace.Whole body is.5))))
+    (before h Class.ReservedOp (codes "->") arrow (exp_items body) is.4 refl (below.exp free ExpPlace.Whole body is.5)))
 exp_level {P} h levels below free place (Exp-F.Let word block in_word body) is =
-    subst P (sym (ap exp_items (rolls-Let word block in_word body) ∙ exp_let word block in_word body))
-    (h.lets word in_word (block_items decl_items block) (exp_items body) is.1 is.3 (below.declarations DeclPlace.Local block is.2) (below.exp free ExpPlace.Whole body is.4))
+    h.lets word in_word (block_items decl_items block) (exp_items body) is.1 is.3 (below.declarations DeclPlace.Local block is.2) (below.exp free ExpPlace.Whole body is.4)
 exp_level {P} h levels below free place (Exp-F.If word test then_word first else_word second) is =
-    subst P (sym (ap exp_items (rolls-If word test then_word first else_word second) ∙ exp_if word test then_word first else_word second))
-    (before h Class.ReservedId (codes "if") word (exp_items test ++ then_word ∷ (exp_items first ++ else_word ∷ exp_items second)) is.1 refl
+    before h Class.ReservedId (codes "if") word (exp_items test ++ then_word ∷ (exp_items first ++ else_word ∷ exp_items second)) is.1 refl
     (h.joins.join (exp_items test) (then_word ∷ (exp_items first ++ else_word ∷ exp_items second)) (below.exp free ExpPlace.Whole test is.2)
     (before h Class.ReservedId (codes "then") then_word (exp_items first ++ else_word ∷ exp_items second) is.3 refl
     (h.joins.join (exp_items first) (else_word ∷ exp_items second) (below.exp free ExpPlace.Whole first is.4)
-    (before h Class.ReservedId (codes "else") else_word (exp_items second) is.5 refl (below.exp free ExpPlace.Whole second is.6))))))
+    (before h Class.ReservedId (codes "else") else_word (exp_items second) is.5 refl (below.exp free ExpPlace.Whole second is.6)))))
 exp_level {P} h levels below free place (Exp-F.Infix list) is =
-    subst P (sym (ap exp_items (rolls-Infix list) ∙ exp_infix list)) (operands h levels below free (last_operand place) list is.2)
+    operands h levels below free (last_operand place) list is.2
 exp_level {P} h levels below free place (Exp-F.Annotated part colons ty) is =
-    subst P (sym (ap exp_items (rolls-Annotated part colons ty) ∙ exp_annotated part colons ty))
-    (h.joins.join (exp_items part) (colons ∷ ty_items ty) (below.exp true ExpPlace.Annotated part is.2)
-    (before h Class.ReservedOp (codes "::") colons (ty_items ty) is.3 refl (types_keep (types_of h) levels TyPlace.Whole ty is.4)))
+    h.joins.join (exp_items part) (colons ∷ ty_items ty) (below.exp true ExpPlace.Annotated part is.2)
+    (before h Class.ReservedOp (codes "::") colons (ty_items ty) is.3 refl (types_keep (types_of h) levels TyPlace.Whole ty is.4))
 exp_level {P} h levels below free place (Exp-F.Fields part left fields right) is = elim is [ ]
