@@ -3,6 +3,7 @@ use Rattle.std.proofs.Common.{◌≡◌, ◌⊎◌, ◌≤◌, ℕ, zero, suc, �
 use Rattle.std.specs.List.{AllByRecursion, flat_map, list_any}
 use Rattle.std.proofs.Math.Seq.{drop-append-add}
 use Rattle.std.proofs.lemmas.Bool.{eqb-true}
+use Rattle.std.proofs.lemmas.List.{append-nil}
 use lib.Chars.{codes}
 use Rattle.hr_base.specs.declared.lexeme.Class.{Class}
 use Rattle.hr_base.specs.declared.lexeme.Item.{Item}
@@ -24,8 +25,8 @@ use Rattle.hr_grammar.specs.Spans.{stretch_length, stretch_of, piece_of}
 use Rattle.hr_grammar.specs.Offside.{begins}
 use Rattle.hr_grammar.specs.Firsts.{Begins, kind_at, opens_part}
 use Rattle.hr_grammar.proofs.Firsts.{of_text}
-use Rattle.hr_grammar.proofs.PartFirsts.{either_true, declarations_begin_lem}
-use Rattle.hr_edges.proofs.Openings.{append_nothing}
+use Rattle.hr_grammar.proofs.Tables.{either_true}
+use Rattle.hr_grammar.proofs.PartFirsts.{declarations_begin_lem}
 use Rattle.hr_edges.proofs.PartStretches.{all_below}
 
 -- what opens a part begins one
@@ -118,7 +119,7 @@ first_of_body : (layout : Layout) (pieces : List (Piece Decl)) → AreBraced lay
 first_of_body (Layout.Explicit left right) pieces braced sound x rest e = let same : left ≡ x = cc in inl (subst (λ (i : Item). role_of i.lexeme ≡ Role.OpenBrace) same (left_brace left braced.0))
 first_of_body (Layout.Implicit col) [] braced sound x rest e = let no : ⊥ = cc in elim no [ ]
 first_of_body (Layout.Implicit col) (piece ∷ pieces) braced sound x rest e =
-    inr (begins_first (begins_part BlockKind.Body) (piece_items decl_items piece) (flat_map (piece_items decl_items) pieces) x rest sound.0.first (sym (append_nothing (flat_map (piece_items decl_items) (piece ∷ pieces))) ∙ e))
+    inr (begins_first (begins_part BlockKind.Body) (piece_items decl_items piece) (flat_map (piece_items decl_items) pieces) x rest sound.0.first (sym (append-nil (flat_map (piece_items decl_items) (piece ∷ pieces))) ∙ e))
 
 pub braced : (levels : ℕ) (block : Block Decl) → (nodes levels).declarations DeclPlace.Top block → AreBraced block.layout block.pieces
 braced zero block is = elim is [ ]

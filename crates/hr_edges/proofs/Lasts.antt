@@ -1,7 +1,7 @@
 -- Which lexemes types and patterns end with, and what lists and blocks end with.
 use Rattle.std.proofs.Common.{◌≡◌, ◌≢◌, ◌⊎◌, ℕ, zero, suc, Bool, true, List, [], ◌∷◌, ◌++◌, Option, None, refl, sym, ap, ap₂, ◌∙◌, subst, inl, inr}
 use Rattle.std.specs.List.{AllByRecursion, flat_map}
-use Rattle.std.proofs.lemmas.List.Folds.{flat_map-map}
+use Rattle.std.proofs.lemmas.List.{append-nil}
 use lib.Chars.{codes}
 use Rattle.hr_base.specs.declared.lexeme.Class.{Class}
 use Rattle.hr_base.specs.declared.lexeme.Item.{Item}
@@ -11,17 +11,13 @@ use Rattle.hr_tree.specs.declared.lists.Listed.{Listed}
 use Rattle.hr_tree.specs.declared.lists.Operand.{Operand}
 use Rattle.hr_tree.specs.declared.lists.Layout.{Layout}
 use Rattle.hr_tree.specs.declared.lists.Piece.{Piece}
-use Rattle.hr_tree.specs.declared.types.Ty.{Ty, out-Ty, roll-Ty}
+use Rattle.hr_tree.specs.declared.types.Ty.{Ty, out-Ty}
 use Rattle.hr_tree.specs.declared.types.Ty.TheOpen.{Ty-F}
-use Rattle.hr_tree.specs.declared.types.Ty.TheFolds.{fold-roll-Ty}
-use Rattle.hr_tree.specs.declared.types.Ty.TheViews.{roll-out-Ty}
-use Rattle.hr_tree.specs.declared.patterns.Pat.{Pat, out-Pat, roll-Pat}
+use Rattle.hr_tree.specs.declared.patterns.Pat.{Pat, out-Pat}
 use Rattle.hr_tree.specs.declared.patterns.Pat.TheOpen.{Pat-F}
-use Rattle.hr_tree.specs.declared.patterns.Pat.TheFolds.{fold-roll-Pat}
-use Rattle.hr_tree.specs.declared.patterns.Pat.TheViews.{roll-out-Pat}
 use Rattle.hr_tree.specs.Names.{constructor_items, variable_items, maybe_item, maybe_operator}
 use Rattle.hr_tree.specs.Lists.{listed_items, operand_items, piece_items, block_items}
-use Rattle.hr_tree.specs.Yields.{done, ty_layer, ty_items, pat_layer, pat_items}
+use Rattle.hr_tree.specs.Yields.{ty_items, pat_items}
 use Rattle.hr_grammar.specs.Words.{IsOf, IsText, IsLiteral}
 use Rattle.hr_grammar.specs.Spelled.{IsTypeConstructor, IsConstructor, IsVariable}
 use Rattle.hr_grammar.specs.Separated.{AreSeparated}
@@ -30,8 +26,9 @@ use Rattle.hr_grammar.specs.Types.{TyProduction}
 use Rattle.hr_grammar.specs.Patterns.{PatProduction, ArePatOperands}
 use Rattle.hr_grammar.specs.Blocks.{IsPiece, AreBraced}
 use Rattle.hr_grammar.specs.Yields.{nodes}
+use Rattle.hr_grammar.specs.Joins.{ty_joined, pat_joined}
+use Rattle.hr_grammar.proofs.Joins.{yields_join_lem}
 use Rattle.hr_edges.specs.Lasts.{LastIs, Passes, Ends, ends_type, ends_pattern, TypesEnd, PatternsEnd}
-use Rattle.hr_edges.proofs.Openings.{append_nothing}
 
 abbrev pub Test : Type 0
 Test = Class → List ℕ → Bool
@@ -53,7 +50,7 @@ last_after Is [] items e = e
 last_after Is (item ∷ first) items e = last_behind Is item (first ++ items) (last_after Is first items e)
 
 pub last_before_nothing : (Is : Item → Type 0) (items : List Item) → LastIs Is items → LastIs Is (items ++ [])
-last_before_nothing Is items e = subst (LastIs Is) (sym (append_nothing items)) e
+last_before_nothing Is items e = subst (LastIs Is) (sym (append-nil items)) e
 
 pub ends_behind : (test : Test) (item : Item) (items : List Item) → Ends test items → Ends test (item ∷ items)
 ends_behind test = last_behind (Passes test)
@@ -153,29 +150,25 @@ patterns_close : Closes ends_pattern
 patterns_close = record { paren = refl; square = refl; variables = λ text. refl; constructors = λ text. refl; qualified = λ text. refl }
 
 ty_level : (levels : ℕ) → ((place : TyPlace) (ty : Ty) → (nodes levels).ty place ty → Ends ends_type (ty_items ty))
-    → (place : TyPlace) (layer : Ty-F Ty) → TyProduction (nodes levels) place layer → Ends ends_type (ty_items (roll-Ty layer))
+    → (place : TyPlace) (layer : Ty-F Ty) → TyProduction (nodes levels) place layer → Ends ends_type (ty_joined layer)
 ty_level levels below place (Ty-F.Variable name) is =
-    subst (Ends ends_type) (sym (fold-roll-Ty (List Item) ty_layer (Ty-F.Variable name))) (class_ends ends_type Class.VarId name is refl)
+    class_ends ends_type Class.VarId name is refl
 ty_level levels below place (Ty-F.Constructor named) is =
-    subst (Ends ends_type) (sym (fold-roll-Ty (List Item) ty_layer (Ty-F.Constructor named))) (type_constructor_ends ends_type types_close named is)
+    type_constructor_ends ends_type types_close named is
 ty_level levels below place (Ty-F.Apply named arguments) is =
-    subst (Ends ends_type) (sym (fold-roll-Ty (List Item) ty_layer (Ty-F.Apply named arguments) ∙ ap (λ l. constructor_items named ++ l) (flat_map-map done ty_items arguments)))
-    (ends_after ends_type (constructor_items named) (flat_map ty_items arguments) (all_end ends_type ty_items ((nodes levels).ty TyPlace.Atomic) (below TyPlace.Atomic) arguments is.2 is.3))
+    ends_after ends_type (constructor_items named) (flat_map ty_items arguments) (all_end ends_type ty_items ((nodes levels).ty TyPlace.Atomic) (below TyPlace.Atomic) arguments is.2 is.3)
 ty_level levels below place (Ty-F.Function from arrow to) is =
-    subst (Ends ends_type) (sym (fold-roll-Ty (List Item) ty_layer (Ty-F.Function from arrow to)))
-    (ends_after ends_type (ty_items from) (arrow ∷ ty_items to) (ends_behind ends_type arrow (ty_items to) (below TyPlace.Whole to is.3)))
+    ends_after ends_type (ty_items from) (arrow ∷ ty_items to) (ends_behind ends_type arrow (ty_items to) (below TyPlace.Whole to is.3))
 ty_level levels below place (Ty-F.Tuple left parts right) is =
-    subst (Ends ends_type) (sym (fold-roll-Ty (List Item) ty_layer (Ty-F.Tuple left parts right)
-    ∙ ap (λ l. left ∷ (l ++ right ∷ [])) (flat_map-map (listed_items done) (λ (l : Listed Ty). record { part = ty_items l.part; separator = l.separator }) parts)))
-    (right_paren ends_type types_close (left ∷ flat_map (listed_items ty_items) parts) right is.3)
+    right_paren ends_type types_close (left ∷ flat_map (listed_items ty_items) parts) right is.3
 ty_level levels below place (Ty-F.List left part right) is =
-    subst (Ends ends_type) (sym (fold-roll-Ty (List Item) ty_layer (Ty-F.List left part right))) (right_square ends_type types_close (left ∷ ty_items part) right is.2)
+    right_square ends_type types_close (left ∷ ty_items part) right is.2
 ty_level levels below place (Ty-F.Group left part right) is =
-    subst (Ends ends_type) (sym (fold-roll-Ty (List Item) ty_layer (Ty-F.Group left part right))) (right_paren ends_type types_close (left ∷ ty_items part) right is.2)
+    right_paren ends_type types_close (left ∷ ty_items part) right is.2
 
 pub types_end_lem : TypesEnd
 types_end_lem zero place ty is = elim is [ ]
-types_end_lem (suc levels) place ty is = subst (λ t. Ends ends_type (ty_items t)) (roll-out-Ty ty) (ty_level levels (types_end_lem levels) place (out-Ty ty) is)
+types_end_lem (suc levels) place ty is = subst (Ends ends_type) (sym (yields_join_lem.ty ty)) (ty_level levels (types_end_lem levels) place (out-Ty ty) is)
 
 pub literal_ends : (test : Test) → ((text : List ℕ) → (test Class.Integer text ≡ true) × (test Class.Char text ≡ true) × (test Class.Str text ≡ true)) → (item : Item) → IsLiteral item → test item.lexeme.class item.lexeme.text ≡ true
 literal_ends test literals item (inl is) = class_ends test Class.Integer item is (literals item.lexeme.text).0
@@ -191,40 +184,33 @@ pat_operands levels below (operand ∷ (next ∷ rest)) is =
     ends_after ends_pattern (operand_items pat_items operand) (flat_map (operand_items pat_items) (next ∷ rest)) (pat_operands levels below (next ∷ rest) is.3)
 
 pat_level : (levels : ℕ) → ((place : PatPlace) (pat : Pat) → (nodes levels).pat place pat → Ends ends_pattern (pat_items pat))
-    → (place : PatPlace) (layer : Pat-F Pat) → PatProduction (nodes levels) place layer → Ends ends_pattern (pat_items (roll-Pat layer))
+    → (place : PatPlace) (layer : Pat-F Pat) → PatProduction (nodes levels) place layer → Ends ends_pattern (pat_joined layer)
 pat_level levels below place (Pat-F.Variable bound) is =
-    subst (Ends ends_pattern) (sym (fold-roll-Pat (List Item) pat_layer (Pat-F.Variable bound))) (variable_ends ends_pattern patterns_close bound is)
+    variable_ends ends_pattern patterns_close bound is
 pat_level levels below place (Pat-F.Wildcard word) is =
-    subst (Ends ends_pattern) (sym (fold-roll-Pat (List Item) pat_layer (Pat-F.Wildcard word))) (text_ends ends_pattern Class.ReservedId (codes "_") word is refl)
+    text_ends ends_pattern Class.ReservedId (codes "_") word is refl
 pat_level levels below place (Pat-F.Literal item) is =
-    subst (Ends ends_pattern) (sym (fold-roll-Pat (List Item) pat_layer (Pat-F.Literal item))) (literal_ends ends_pattern (λ text. (refl, refl, refl)) item is)
+    literal_ends ends_pattern (λ text. (refl, refl, refl)) item is
 pat_level levels below place (Pat-F.Negative minus number) is =
-    subst (Ends ends_pattern) (sym (fold-roll-Pat (List Item) pat_layer (Pat-F.Negative minus number))) (class_ends ends_pattern Class.Integer number is.2 refl)
+    class_ends ends_pattern Class.Integer number is.2 refl
 pat_level levels below place (Pat-F.Constructor named) is =
-    subst (Ends ends_pattern) (sym (fold-roll-Pat (List Item) pat_layer (Pat-F.Constructor named))) (constructor_ends ends_pattern patterns_close named is)
+    constructor_ends ends_pattern patterns_close named is
 pat_level levels below place (Pat-F.As bound mark part) is =
-    subst (Ends ends_pattern) (sym (fold-roll-Pat (List Item) pat_layer (Pat-F.As bound mark part)))
-    (ends_after ends_pattern (variable_items bound) (mark ∷ pat_items part) (ends_behind ends_pattern mark (pat_items part) (below PatPlace.Atomic part is.2)))
+    ends_after ends_pattern (variable_items bound) (mark ∷ pat_items part) (ends_behind ends_pattern mark (pat_items part) (below PatPlace.Atomic part is.2))
 pat_level levels below place (Pat-F.Lazy mark part) is =
-    subst (Ends ends_pattern) (sym (fold-roll-Pat (List Item) pat_layer (Pat-F.Lazy mark part))) (ends_behind ends_pattern mark (pat_items part) (below PatPlace.Atomic part is.1))
+    ends_behind ends_pattern mark (pat_items part) (below PatPlace.Atomic part is.1)
 pat_level levels below place (Pat-F.Apply named arguments) is =
-    subst (Ends ends_pattern) (sym (fold-roll-Pat (List Item) pat_layer (Pat-F.Apply named arguments) ∙ ap (λ l. constructor_items named ++ l) (flat_map-map done pat_items arguments)))
-    (ends_after ends_pattern (constructor_items named) (flat_map pat_items arguments) (all_end ends_pattern pat_items ((nodes levels).pat PatPlace.Atomic) (below PatPlace.Atomic) arguments is.2 is.3))
+    ends_after ends_pattern (constructor_items named) (flat_map pat_items arguments) (all_end ends_pattern pat_items ((nodes levels).pat PatPlace.Atomic) (below PatPlace.Atomic) arguments is.2 is.3)
 pat_level levels below place (Pat-F.Infix list) is =
-    subst (Ends ends_pattern) (sym (fold-roll-Pat (List Item) pat_layer (Pat-F.Infix list)
-    ∙ flat_map-map (operand_items done) (λ (o : Operand Pat). record { minus = o.minus; part = pat_items o.part; operator = o.operator }) list)) (pat_operands levels below list is.2)
+    pat_operands levels below list is.2
 pat_level levels below place (Pat-F.Tuple left parts right) is =
-    subst (Ends ends_pattern) (sym (fold-roll-Pat (List Item) pat_layer (Pat-F.Tuple left parts right)
-    ∙ ap (λ l. left ∷ (l ++ right ∷ [])) (flat_map-map (listed_items done) (λ (l : Listed Pat). record { part = pat_items l.part; separator = l.separator }) parts)))
-    (right_paren ends_pattern patterns_close (left ∷ flat_map (listed_items pat_items) parts) right is.3)
+    right_paren ends_pattern patterns_close (left ∷ flat_map (listed_items pat_items) parts) right is.3
 pat_level levels below place (Pat-F.List left parts right) is =
-    subst (Ends ends_pattern) (sym (fold-roll-Pat (List Item) pat_layer (Pat-F.List left parts right)
-    ∙ ap (λ l. left ∷ (l ++ right ∷ [])) (flat_map-map (listed_items done) (λ (l : Listed Pat). record { part = pat_items l.part; separator = l.separator }) parts)))
-    (right_square ends_pattern patterns_close (left ∷ flat_map (listed_items pat_items) parts) right is.3)
+    right_square ends_pattern patterns_close (left ∷ flat_map (listed_items pat_items) parts) right is.3
 pat_level levels below place (Pat-F.Group left part right) is =
-    subst (Ends ends_pattern) (sym (fold-roll-Pat (List Item) pat_layer (Pat-F.Group left part right))) (right_paren ends_pattern patterns_close (left ∷ pat_items part) right is.2)
+    right_paren ends_pattern patterns_close (left ∷ pat_items part) right is.2
 pat_level levels below place (Pat-F.Fields named left fields right) is = elim is [ ]
 
 pub patterns_end_lem : PatternsEnd
 patterns_end_lem zero place pat is = elim is [ ]
-patterns_end_lem (suc levels) place pat is = subst (λ p. Ends ends_pattern (pat_items p)) (roll-out-Pat pat) (pat_level levels (patterns_end_lem levels) place (out-Pat pat) is)
+patterns_end_lem (suc levels) place pat is = subst (Ends ends_pattern) (sym (yields_join_lem.pat pat)) (pat_level levels (patterns_end_lem levels) place (out-Pat pat) is)

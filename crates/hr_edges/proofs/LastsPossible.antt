@@ -40,7 +40,7 @@ use Rattle.hr_grammar.specs.Expressions.{ExpProduction, takes_operand}
 use Rattle.hr_grammar.specs.Declarations.{DeclProduction, takes_local}
 use Rattle.hr_grammar.specs.Imports.{AreImportNames}
 use Rattle.hr_grammar.specs.Yields.{nodes}
-use Rattle.hr_grammar.proofs.PartFirsts.{spelled_is, either_true}
+use Rattle.hr_grammar.proofs.Tables.{spelled_is, either_true}
 use Rattle.hr_edges.specs.Lasts.{LastIs, closing_brackets, ends_type, ends_pattern, ends_atom, ends_part, ends_expression, ends_import, ends_declaration, words_before_nothing, specials_last, LastsArePossible}
 use Rattle.hr_edges.proofs.Lasts.{last_behind, last_after, last_before_nothing}
 

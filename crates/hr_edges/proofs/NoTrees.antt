@@ -2,6 +2,7 @@
 -- begin a piece of it.
 use Rattle.std.proofs.Common.{◌≡◌, ◌⊎◌, ◌<◌, ℕ, ◌==◌, true, false, List, [], ◌∷◌, length, map, drop, Option, Some, None, refl, sym, ap, ◌∙◌, subst, inl, inr, arith}
 use Rattle.std.specs.List.{flat_map, list_any}
+use Rattle.std.proofs.lemmas.List.{append-nil}
 use lib.Chars.{codes}
 use Rattle.hr_base.specs.declared.lexeme.Class.{Class}
 use Rattle.hr_base.specs.declared.lexeme.Item.{Item}
@@ -22,7 +23,6 @@ use Rattle.hr_grammar.specs.Spans.{Span, last_ending, stretch_of, piece_of, span
 use Rattle.hr_grammar.specs.Offside.{placed_among, lexemes_of, column_of, begins, is_braced, AllStandRight, IsOffside, Offside}
 use Rattle.hr_grammar.specs.Worked.{item}
 use Rattle.hr_edges.specs.NoTrees.{then_at_margin, ThenAtMarginHasNoTree}
-use Rattle.hr_edges.proofs.Openings.{append_nothing}
 use Rattle.hr_edges.proofs.Bodies.{body_sound, first_of_piece, braced}
 use Rattle.hr_edges.proofs.Modules.{body_laid_of, body_by, bodies_alone_lem}
 
@@ -74,7 +74,7 @@ no_tree None (Layout.Explicit left right) pieces end tail yields offside =
     let e : Some Class.Special ≡ Some Class.VarId = ap (λ c. Some c) (sym braces.0.0) ∙ ap (λ (i : Items). first_class i.list) yields.items_are in cc
 no_tree None (Layout.Implicit col) pieces end tail yields offside =
     let begun = margin col pieces end tail yields offside in
-    let are : flat_map (piece_items decl_items) pieces ≡ then_at_margin = sym (append_nothing (flat_map (piece_items decl_items) pieces)) ∙ ap (λ (i : Items). i.list) yields.items_are in
+    let are : flat_map (piece_items decl_items) pieces ≡ then_at_margin = sym (append-nil (flat_map (piece_items decl_items) pieces)) ∙ ap (λ (i : Items). i.list) yields.items_are in
     then_begins_nothing (codes "\n")
     (first_of_piece 0 4 pieces (body_sound yields.grammar.0 (record { layout = Layout.Implicit col; pieces = pieces }) yields.grammar.1.1) begun.1 (item Class.ReservedId (codes "\n") (codes "then")) (drop 5 then_at_margin) (ap (drop 4) are))
 

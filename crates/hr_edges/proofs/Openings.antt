@@ -2,7 +2,7 @@
 -- and their blocks begin behind the opening words, if those of their parts do.
 use Rattle.std.proofs.Common.{◌≡◌, ℕ, suc, ◌+◌, Bool, true, false, if◌then◌else◌, List, [], ◌∷◌, ◌++◌, length, map, refl, sym, ap, ap₂, ◌∙◌, subst, arith}
 use Rattle.std.specs.List.{AllByRecursion, flat_map}
-use Rattle.std.proofs.lemmas.List.{length-append, map-append}
+use Rattle.std.proofs.lemmas.List.{append-nil, length-append, map-append}
 use lib.Chars.{codes}
 use Rattle.hr_base.specs.declared.lexeme.Ending.{Ending}
 use Rattle.hr_base.specs.declared.lexeme.Item.{Item}
@@ -19,10 +19,6 @@ use Rattle.hr_grammar.specs.Spans.{Laid, Span, bare, one, row, ending_as, ◌▷
 use Rattle.hr_grammar.proofs.walk.Lists.{absent, there}
 use Rattle.hr_edges.specs.Openings.{is_opening, behind_openings, IsPlain, ArePlain, starts_of, IsLaidBy}
 use Rattle.hr_edges.proofs.Plain.{special, plain_patterns}
-
-pub append_nothing : {T : Type 0} (xs : List T) → xs ++ [] ≡ xs
-append_nothing [] = refl
-append_nothing (x ∷ xs) = ap (λ l. x ∷ l) (append_nothing xs)
 
 -- the numbers behind the opening words, by the first item
 pub numbers_plain : (n : ℕ) (item : Item) (items : List Item) → IsPlain item → behind_openings n (item ∷ items) ≡ behind_openings (suc n) items
@@ -89,7 +85,7 @@ block_by kind layout pieces inner p q is =
     let whole = join (plain (opening_items layout) p) (join is (plain (closing_items layout) q)) in
     record {
       extent = whole.extent;
-      starts = λ m n. ap (λ l. n ∷ l) (ap starts_of (sym (append_nothing ((row (map piece_laid pieces)).blocks (column_inside layout) (n + length (opening_items layout))))) ∙ whole.starts (column_inside layout) n);
+      starts = λ m n. ap (λ l. n ∷ l) (ap starts_of (sym (append-nil ((row (map piece_laid pieces)).blocks (column_inside layout) (n + length (opening_items layout))))) ∙ whole.starts (column_inside layout) n);
     }
 
 -- lists of parts

@@ -1,5 +1,5 @@
 -- Which lexemes expressions, declarations and alternatives end with.
-use Rattle.std.proofs.Common.{◌≡◌, ℕ, zero, suc, ◌||◌, Bool, true, false, List, [], ◌∷◌, ◌++◌, Option, Some, None, refl, sym, ap, ◌∙◌, subst, inl, inr}
+use Rattle.std.proofs.Common.{◌≡◌, ℕ, zero, suc, ◌||◌, Bool, true, false, List, [], ◌∷◌, ◌++◌, Option, Some, None, refl, sym, subst, inl, inr}
 use Rattle.std.specs.List.{flat_map}
 use lib.Chars.{codes}
 use Rattle.hr_base.specs.declared.lexeme.Class.{Class}
@@ -15,21 +15,18 @@ use Rattle.hr_tree.specs.declared.declarations.Construction.{Construction}
 use Rattle.hr_tree.specs.declared.declarations.Body.{Body}
 use Rattle.hr_tree.specs.declared.declarations.Guarded.{Guarded}
 use Rattle.hr_tree.specs.declared.declarations.Where.{Where}
-use Rattle.hr_tree.specs.declared.expressions.Exp.{Exp, out-Exp, roll-Exp}
-use Rattle.hr_tree.specs.declared.expressions.Decl.{Decl, out-Decl, roll-Decl}
+use Rattle.hr_tree.specs.declared.expressions.Exp.{Exp, out-Exp}
+use Rattle.hr_tree.specs.declared.expressions.Decl.{Decl, out-Decl}
 use Rattle.hr_tree.specs.declared.expressions.Alt.{Alt, out-Alt}
 use Rattle.hr_tree.specs.declared.expressions.Qualifier.{Qualifier}
 use Rattle.hr_tree.specs.declared.expressions.Decl.TheOpen.{Exp-F, Decl-F}
-use Rattle.hr_tree.specs.declared.expressions.Decl.TheFolds.{fold-roll-Exp, fold-roll-Decl}
-use Rattle.hr_tree.specs.declared.expressions.Decl.TheViews.{roll-out-Exp, roll-out-Decl, rolls-Group, rolls-Tuple, rolls-List, rolls-From, rolls-FromThen, rolls-FromTo, rolls-FromThenTo, rolls-Comprehension, rolls-LeftSection, rolls-RightSection, rolls-Apply, rolls-Infix, rolls-Annotated, rolls-Lambda, rolls-Let, rolls-If, rolls-Case, rolls-Equation, rolls-Binding}
 use Rattle.hr_tree.specs.declared.modules.NameList.{NameList}
 use Rattle.hr_tree.specs.declared.modules.Import.{Import}
 use Rattle.hr_tree.specs.declared.modules.Alias.{Alias}
 use Rattle.hr_tree.specs.declared.modules.ImportNames.{ImportNames}
 use Rattle.hr_tree.specs.Names.{constructor_items, variable_items, operator_items, maybe_item}
 use Rattle.hr_tree.specs.Lists.{listed_items, operand_items, block_items, guarded_items, body_items, where_items}
-use Rattle.hr_tree.specs.Yields.{ty_items, pat_items, type_head_items, construction_items, left_side_items, imported_items, name_list_items, maybe_alias, maybe_import_names, import_items, exp_layer, decl_layer, qualifier_layer, alt_layer, exp_items, decl_items, qualifier_items, alt_items}
-use Rattle.hr_tree.proofs.ExpressionYields.{exp_group, exp_tuple, exp_list, exp_from, exp_from_then, exp_from_to, exp_from_then_to, exp_comprehension, exp_left_section, exp_right_section, exp_apply, exp_infix, exp_annotated, exp_lambda, exp_let, exp_if, exp_case, decl_equation, decl_binding, alt_whole}
+use Rattle.hr_tree.specs.Yields.{ty_items, pat_items, type_head_items, construction_items, left_side_items, imported_items, name_list_items, maybe_alias, maybe_import_names, import_items, exp_items, decl_items, qualifier_items, alt_items}
 use Rattle.hr_grammar.specs.Words.{IsOf, IsBar, IsComma, IsEquals, IsArrow}
 use Rattle.hr_grammar.specs.Spelled.{IsNamedVariable, IsOwnConstructor, IsOwnOperator}
 use Rattle.hr_grammar.specs.Nodes.{TyPlace, ExpPlace, DeclPlace}
@@ -37,6 +34,8 @@ use Rattle.hr_grammar.specs.Expressions.{ExpProduction, AreExpOperands, last_ope
 use Rattle.hr_grammar.specs.Declarations.{DeclProduction, IsAltOver, IsConstructionOver, IsNewConstructionOver, IsGuardedOver, IsBodyOver, IsWhereOver, takes_import, takes_top, takes_local}
 use Rattle.hr_grammar.specs.Imports.{IsNameList, IsImported, IsAlias, AreImportNames, IsImport}
 use Rattle.hr_grammar.specs.Yields.{nodes}
+use Rattle.hr_grammar.specs.Joins.{exp_joined, decl_joined}
+use Rattle.hr_grammar.proofs.Joins.{yields_join_lem}
 use Rattle.hr_edges.specs.Lasts.{Ends, ends_type, ends_atom, ends_part, ends_expression, ends_import, ends_declaration, ExpressionsEnd, DeclarationsEnd, AlternativesEnd}
 use Rattle.hr_edges.proofs.Lasts.{Closes, class_ends, text_ends, ends_behind, ends_after, ends_before_nothing, ends_with, weaker, all_end, separated_end, last_operand_ends, block_ends, right_paren, right_square, constructor_ends, literal_ends, types_end_lem}
 
@@ -105,49 +104,49 @@ operands levels below free last (operand ∷ []) is =
 operands levels below free last (operand ∷ (next ∷ rest)) is =
     ends_after ends_part (operand_items exp_items operand) (flat_map (operand_items exp_items) (next ∷ rest)) (operands levels below free last (next ∷ rest) is.3)
 
-exp_level : (levels : ℕ) → Below levels → (free : Bool) (place : ExpPlace) (layer : Exp-F Decl Exp Qualifier Alt) → ExpProduction (nodes levels) free place layer → Ends (ends_expression place) (exp_items (roll-Exp layer))
+exp_level : (levels : ℕ) → Below levels → (free : Bool) (place : ExpPlace) (layer : Exp-F Decl Exp Qualifier Alt) → ExpProduction (nodes levels) free place layer → Ends (ends_expression place) (exp_joined layer)
 exp_level levels below free place (Exp-F.Variable named) is =
-    subst (Ends (ends_expression place)) (sym (fold-roll-Exp (List Item) (List Item) (List Item) (List Item) decl_layer exp_layer qualifier_layer alt_layer (Exp-F.Variable named))) (atom_at place (variable_items named) (named_variable_ends named is))
+    atom_at place (variable_items named) (named_variable_ends named is)
 exp_level levels below free place (Exp-F.Constructor named) is =
-    subst (Ends (ends_expression place)) (sym (fold-roll-Exp (List Item) (List Item) (List Item) (List Item) decl_layer exp_layer qualifier_layer alt_layer (Exp-F.Constructor named))) (atom_at place (constructor_items named) (constructor_ends ends_atom atoms_close named is))
+    atom_at place (constructor_items named) (constructor_ends ends_atom atoms_close named is)
 exp_level levels below free place (Exp-F.Literal item) is =
-    subst (Ends (ends_expression place)) (sym (fold-roll-Exp (List Item) (List Item) (List Item) (List Item) decl_layer exp_layer qualifier_layer alt_layer (Exp-F.Literal item))) (atom_at place (item ∷ []) (literal_ends ends_atom (λ text. (refl, refl, refl)) item is))
+    atom_at place (item ∷ []) (literal_ends ends_atom (λ text. (refl, refl, refl)) item is)
 exp_level levels below free place (Exp-F.Group left part right) is =
-    subst (Ends (ends_expression place)) (sym (ap exp_items (rolls-Group left part right) ∙ exp_group left part right)) (atom_at place ((left ∷ exp_items part) ++ right ∷ []) (right_paren ends_atom atoms_close (left ∷ exp_items part) right is.2))
+    atom_at place ((left ∷ exp_items part) ++ right ∷ []) (right_paren ends_atom atoms_close (left ∷ exp_items part) right is.2)
 exp_level levels below free place (Exp-F.Tuple left parts right) is =
-    subst (Ends (ends_expression place)) (sym (ap exp_items (rolls-Tuple left parts right) ∙ exp_tuple left parts right)) (atom_at place ((left ∷ flat_map (listed_items exp_items) parts) ++ right ∷ []) (right_paren ends_atom atoms_close (left ∷ flat_map (listed_items exp_items) parts) right is.3))
+    atom_at place ((left ∷ flat_map (listed_items exp_items) parts) ++ right ∷ []) (right_paren ends_atom atoms_close (left ∷ flat_map (listed_items exp_items) parts) right is.3)
 exp_level levels below free place (Exp-F.List left parts right) is =
-    subst (Ends (ends_expression place)) (sym (ap exp_items (rolls-List left parts right) ∙ exp_list left parts right)) (atom_at place ((left ∷ flat_map (listed_items exp_items) parts) ++ right ∷ []) (right_square ends_atom atoms_close (left ∷ flat_map (listed_items exp_items) parts) right is.3))
+    atom_at place ((left ∷ flat_map (listed_items exp_items) parts) ++ right ∷ []) (right_square ends_atom atoms_close (left ∷ flat_map (listed_items exp_items) parts) right is.3)
 exp_level levels below free place (Exp-F.From left first dots right) is =
-    subst (Ends (ends_expression place)) (sym (ap exp_items (rolls-From left first dots right) ∙ exp_from left first dots right)) (atom_at place (left ∷ (exp_items first ++ (dots ∷ (right ∷ [])))) (ends_behind ends_atom left (exp_items first ++ (dots ∷ (right ∷ []))) (ends_after ends_atom (exp_items first) (dots ∷ (right ∷ [])) (ends_behind ends_atom dots (right ∷ []) (text_ends ends_atom Class.Special (codes "]") right is.3 refl)))))
+    atom_at place (left ∷ (exp_items first ++ (dots ∷ (right ∷ [])))) (ends_behind ends_atom left (exp_items first ++ (dots ∷ (right ∷ []))) (ends_after ends_atom (exp_items first) (dots ∷ (right ∷ [])) (ends_behind ends_atom dots (right ∷ []) (text_ends ends_atom Class.Special (codes "]") right is.3 refl))))
 exp_level levels below free place (Exp-F.FromThen left first comma second dots right) is =
-    subst (Ends (ends_expression place)) (sym (ap exp_items (rolls-FromThen left first comma second dots right) ∙ exp_from_then left first comma second dots right)) (atom_at place (left ∷ (exp_items first ++ (comma ∷ (exp_items second ++ (dots ∷ (right ∷ [])))))) (ends_behind ends_atom left (exp_items first ++ (comma ∷ (exp_items second ++ (dots ∷ (right ∷ []))))) (ends_after ends_atom (exp_items first) (comma ∷ (exp_items second ++ (dots ∷ (right ∷ [])))) (ends_behind ends_atom comma (exp_items second ++ (dots ∷ (right ∷ []))) (ends_after ends_atom (exp_items second) (dots ∷ (right ∷ [])) (ends_behind ends_atom dots (right ∷ []) (text_ends ends_atom Class.Special (codes "]") right is.5 refl)))))))
+    atom_at place (left ∷ (exp_items first ++ (comma ∷ (exp_items second ++ (dots ∷ (right ∷ [])))))) (ends_behind ends_atom left (exp_items first ++ (comma ∷ (exp_items second ++ (dots ∷ (right ∷ []))))) (ends_after ends_atom (exp_items first) (comma ∷ (exp_items second ++ (dots ∷ (right ∷ [])))) (ends_behind ends_atom comma (exp_items second ++ (dots ∷ (right ∷ []))) (ends_after ends_atom (exp_items second) (dots ∷ (right ∷ [])) (ends_behind ends_atom dots (right ∷ []) (text_ends ends_atom Class.Special (codes "]") right is.5 refl))))))
 exp_level levels below free place (Exp-F.FromTo left first dots last right) is =
-    subst (Ends (ends_expression place)) (sym (ap exp_items (rolls-FromTo left first dots last right) ∙ exp_from_to left first dots last right)) (atom_at place (left ∷ (exp_items first ++ (dots ∷ (exp_items last ++ (right ∷ []))))) (ends_behind ends_atom left (exp_items first ++ (dots ∷ (exp_items last ++ (right ∷ [])))) (ends_after ends_atom (exp_items first) (dots ∷ (exp_items last ++ (right ∷ []))) (ends_behind ends_atom dots (exp_items last ++ (right ∷ [])) (ends_after ends_atom (exp_items last) (right ∷ []) (text_ends ends_atom Class.Special (codes "]") right is.4 refl))))))
+    atom_at place (left ∷ (exp_items first ++ (dots ∷ (exp_items last ++ (right ∷ []))))) (ends_behind ends_atom left (exp_items first ++ (dots ∷ (exp_items last ++ (right ∷ [])))) (ends_after ends_atom (exp_items first) (dots ∷ (exp_items last ++ (right ∷ []))) (ends_behind ends_atom dots (exp_items last ++ (right ∷ [])) (ends_after ends_atom (exp_items last) (right ∷ []) (text_ends ends_atom Class.Special (codes "]") right is.4 refl)))))
 exp_level levels below free place (Exp-F.FromThenTo left first comma second dots last right) is =
-    subst (Ends (ends_expression place)) (sym (ap exp_items (rolls-FromThenTo left first comma second dots last right) ∙ exp_from_then_to left first comma second dots last right)) (atom_at place (left ∷ (exp_items first ++ (comma ∷ (exp_items second ++ (dots ∷ (exp_items last ++ (right ∷ []))))))) (ends_behind ends_atom left (exp_items first ++ (comma ∷ (exp_items second ++ (dots ∷ (exp_items last ++ (right ∷ [])))))) (ends_after ends_atom (exp_items first) (comma ∷ (exp_items second ++ (dots ∷ (exp_items last ++ (right ∷ []))))) (ends_behind ends_atom comma (exp_items second ++ (dots ∷ (exp_items last ++ (right ∷ [])))) (ends_after ends_atom (exp_items second) (dots ∷ (exp_items last ++ (right ∷ []))) (ends_behind ends_atom dots (exp_items last ++ (right ∷ [])) (ends_after ends_atom (exp_items last) (right ∷ []) (text_ends ends_atom Class.Special (codes "]") right is.6 refl))))))))
+    atom_at place (left ∷ (exp_items first ++ (comma ∷ (exp_items second ++ (dots ∷ (exp_items last ++ (right ∷ []))))))) (ends_behind ends_atom left (exp_items first ++ (comma ∷ (exp_items second ++ (dots ∷ (exp_items last ++ (right ∷ [])))))) (ends_after ends_atom (exp_items first) (comma ∷ (exp_items second ++ (dots ∷ (exp_items last ++ (right ∷ []))))) (ends_behind ends_atom comma (exp_items second ++ (dots ∷ (exp_items last ++ (right ∷ [])))) (ends_after ends_atom (exp_items second) (dots ∷ (exp_items last ++ (right ∷ []))) (ends_behind ends_atom dots (exp_items last ++ (right ∷ [])) (ends_after ends_atom (exp_items last) (right ∷ []) (text_ends ends_atom Class.Special (codes "]") right is.6 refl)))))))
 exp_level levels below free place (Exp-F.Comprehension left part bar qualifiers right) is =
-    subst (Ends (ends_expression place)) (sym (ap exp_items (rolls-Comprehension left part bar qualifiers right) ∙ exp_comprehension left part bar qualifiers right)) (atom_at place (left ∷ (exp_items part ++ (bar ∷ (flat_map (listed_items qualifier_items) qualifiers ++ (right ∷ []))))) (ends_behind ends_atom left (exp_items part ++ (bar ∷ (flat_map (listed_items qualifier_items) qualifiers ++ (right ∷ [])))) (ends_after ends_atom (exp_items part) (bar ∷ (flat_map (listed_items qualifier_items) qualifiers ++ (right ∷ []))) (ends_behind ends_atom bar (flat_map (listed_items qualifier_items) qualifiers ++ (right ∷ [])) (ends_after ends_atom (flat_map (listed_items qualifier_items) qualifiers) (right ∷ []) (text_ends ends_atom Class.Special (codes "]") right is.5 refl))))))
+    atom_at place (left ∷ (exp_items part ++ (bar ∷ (flat_map (listed_items qualifier_items) qualifiers ++ (right ∷ []))))) (ends_behind ends_atom left (exp_items part ++ (bar ∷ (flat_map (listed_items qualifier_items) qualifiers ++ (right ∷ [])))) (ends_after ends_atom (exp_items part) (bar ∷ (flat_map (listed_items qualifier_items) qualifiers ++ (right ∷ []))) (ends_behind ends_atom bar (flat_map (listed_items qualifier_items) qualifiers ++ (right ∷ [])) (ends_after ends_atom (flat_map (listed_items qualifier_items) qualifiers) (right ∷ []) (text_ends ends_atom Class.Special (codes "]") right is.5 refl)))))
 exp_level levels below free place (Exp-F.LeftSection left part sign right) is =
-    subst (Ends (ends_expression place)) (sym (ap exp_items (rolls-LeftSection left part sign right) ∙ exp_left_section left part sign right)) (atom_at place (left ∷ (exp_items part ++ (operator_items sign ++ (right ∷ [])))) (ends_behind ends_atom left (exp_items part ++ (operator_items sign ++ (right ∷ []))) (ends_after ends_atom (exp_items part) (operator_items sign ++ (right ∷ [])) (ends_after ends_atom (operator_items sign) (right ∷ []) (text_ends ends_atom Class.Special (codes ")") right is.3 refl)))))
+    atom_at place (left ∷ (exp_items part ++ (operator_items sign ++ (right ∷ [])))) (ends_behind ends_atom left (exp_items part ++ (operator_items sign ++ (right ∷ []))) (ends_after ends_atom (exp_items part) (operator_items sign ++ (right ∷ [])) (ends_after ends_atom (operator_items sign) (right ∷ []) (text_ends ends_atom Class.Special (codes ")") right is.3 refl))))
 exp_level levels below free place (Exp-F.RightSection left sign part right) is =
-    subst (Ends (ends_expression place)) (sym (ap exp_items (rolls-RightSection left sign part right) ∙ exp_right_section left sign part right)) (atom_at place (left ∷ (operator_items sign ++ (exp_items part ++ (right ∷ [])))) (ends_behind ends_atom left (operator_items sign ++ (exp_items part ++ (right ∷ []))) (ends_after ends_atom (operator_items sign) (exp_items part ++ (right ∷ [])) (ends_after ends_atom (exp_items part) (right ∷ []) (text_ends ends_atom Class.Special (codes ")") right is.4 refl)))))
+    atom_at place (left ∷ (operator_items sign ++ (exp_items part ++ (right ∷ [])))) (ends_behind ends_atom left (operator_items sign ++ (exp_items part ++ (right ∷ []))) (ends_after ends_atom (operator_items sign) (exp_items part ++ (right ∷ [])) (ends_after ends_atom (exp_items part) (right ∷ []) (text_ends ends_atom Class.Special (codes ")") right is.4 refl))))
 exp_level levels below free place (Exp-F.Apply []) is = elim is.1 [ ]
 exp_level levels below free place (Exp-F.Apply (atom ∷ atoms)) is =
-    subst (Ends (ends_expression place)) (sym (ap exp_items (rolls-Apply (atom ∷ atoms)) ∙ exp_apply (atom ∷ atoms))) (part_at takes_operand refl place (flat_map exp_items (atom ∷ atoms)) is.0
-    (weaker ends_atom ends_part atom_part (flat_map exp_items (atom ∷ atoms)) (all_end ends_atom exp_items ((nodes levels).exp free ExpPlace.Atom) (below.exp free ExpPlace.Atom) (atom ∷ atoms) (λ e. let no : ⊥ = cc in no) is.2)))
+    part_at takes_operand refl place (flat_map exp_items (atom ∷ atoms)) is.0
+    (weaker ends_atom ends_part atom_part (flat_map exp_items (atom ∷ atoms)) (all_end ends_atom exp_items ((nodes levels).exp free ExpPlace.Atom) (below.exp free ExpPlace.Atom) (atom ∷ atoms) (λ e. let no : ⊥ = cc in no) is.2))
 exp_level levels below free place (Exp-F.Case word part of_word block) is =
-    subst (Ends (ends_expression place)) (sym (ap exp_items (rolls-Case word part of_word block) ∙ exp_case word part of_word block)) (part_at takes_operand refl place (word ∷ (exp_items part ++ (of_word ∷ block_items alt_items block))) is.0 (ends_behind ends_part word (exp_items part ++ (of_word ∷ block_items alt_items block)) (ends_after ends_part (exp_items part) (of_word ∷ block_items alt_items block) (below.alternatives of_word (text_ends ends_part Class.ReservedId (codes "of") of_word is.3 refl) block is.4))))
+    part_at takes_operand refl place (word ∷ (exp_items part ++ (of_word ∷ block_items alt_items block))) is.0 (ends_behind ends_part word (exp_items part ++ (of_word ∷ block_items alt_items block)) (ends_after ends_part (exp_items part) (of_word ∷ block_items alt_items block) (below.alternatives of_word (text_ends ends_part Class.ReservedId (codes "of") of_word is.3 refl) block is.4)))
 exp_level levels below free place (Exp-F.Lambda mark patterns arrow body) is =
-    subst (Ends (ends_expression place)) (sym (ap exp_items (rolls-Lambda mark patterns arrow body) ∙ exp_lambda mark patterns arrow body)) (part_at takes_open refl place (mark ∷ (flat_map pat_items patterns ++ (arrow ∷ (exp_items body)))) is.0 (ends_behind ends_part mark (flat_map pat_items patterns ++ (arrow ∷ (exp_items body))) (ends_after ends_part (flat_map pat_items patterns) (arrow ∷ (exp_items body)) (ends_behind ends_part arrow (exp_items body) (exp_part levels below free ExpPlace.Whole body is.5)))))
+    part_at takes_open refl place (mark ∷ (flat_map pat_items patterns ++ (arrow ∷ (exp_items body)))) is.0 (ends_behind ends_part mark (flat_map pat_items patterns ++ (arrow ∷ (exp_items body))) (ends_after ends_part (flat_map pat_items patterns) (arrow ∷ (exp_items body)) (ends_behind ends_part arrow (exp_items body) (exp_part levels below free ExpPlace.Whole body is.5))))
 exp_level levels below free place (Exp-F.Let word block in_word body) is =
-    subst (Ends (ends_expression place)) (sym (ap exp_items (rolls-Let word block in_word body) ∙ exp_let word block in_word body)) (part_at takes_open refl place (word ∷ (block_items decl_items block ++ (in_word ∷ (exp_items body)))) is.0 (ends_behind ends_part word (block_items decl_items block ++ (in_word ∷ (exp_items body))) (ends_after ends_part (block_items decl_items block) (in_word ∷ (exp_items body)) (ends_behind ends_part in_word (exp_items body) (exp_part levels below free ExpPlace.Whole body is.4)))))
+    part_at takes_open refl place (word ∷ (block_items decl_items block ++ (in_word ∷ (exp_items body)))) is.0 (ends_behind ends_part word (block_items decl_items block ++ (in_word ∷ (exp_items body))) (ends_after ends_part (block_items decl_items block) (in_word ∷ (exp_items body)) (ends_behind ends_part in_word (exp_items body) (exp_part levels below free ExpPlace.Whole body is.4))))
 exp_level levels below free place (Exp-F.If word test then_word first else_word second) is =
-    subst (Ends (ends_expression place)) (sym (ap exp_items (rolls-If word test then_word first else_word second) ∙ exp_if word test then_word first else_word second)) (part_at takes_open refl place (word ∷ (exp_items test ++ (then_word ∷ (exp_items first ++ (else_word ∷ (exp_items second)))))) is.0 (ends_behind ends_part word (exp_items test ++ (then_word ∷ (exp_items first ++ (else_word ∷ (exp_items second))))) (ends_after ends_part (exp_items test) (then_word ∷ (exp_items first ++ (else_word ∷ (exp_items second)))) (ends_behind ends_part then_word (exp_items first ++ (else_word ∷ (exp_items second))) (ends_after ends_part (exp_items first) (else_word ∷ (exp_items second)) (ends_behind ends_part else_word (exp_items second) (exp_part levels below free ExpPlace.Whole second is.6)))))))
+    part_at takes_open refl place (word ∷ (exp_items test ++ (then_word ∷ (exp_items first ++ (else_word ∷ (exp_items second)))))) is.0 (ends_behind ends_part word (exp_items test ++ (then_word ∷ (exp_items first ++ (else_word ∷ (exp_items second))))) (ends_after ends_part (exp_items test) (then_word ∷ (exp_items first ++ (else_word ∷ (exp_items second)))) (ends_behind ends_part then_word (exp_items first ++ (else_word ∷ (exp_items second))) (ends_after ends_part (exp_items first) (else_word ∷ (exp_items second)) (ends_behind ends_part else_word (exp_items second) (exp_part levels below free ExpPlace.Whole second is.6))))))
 exp_level levels below free place (Exp-F.Infix list) is =
-    subst (Ends (ends_expression place)) (sym (ap exp_items (rolls-Infix list) ∙ exp_infix list)) (part_at takes_infix refl place (flat_map (operand_items exp_items) list) is.0 (operands levels below free (last_operand place) list is.2))
+    part_at takes_infix refl place (flat_map (operand_items exp_items) list) is.0 (operands levels below free (last_operand place) list is.2)
 exp_level levels below free place (Exp-F.Annotated part colons ty) is =
-    subst (Ends (ends_expression place)) (sym (ap exp_items (rolls-Annotated part colons ty) ∙ exp_annotated part colons ty)) (part_at takes_annotation refl place (exp_items part ++ (colons ∷ (ty_items ty))) is.0 (ends_after ends_part (exp_items part) (colons ∷ (ty_items ty)) (ends_behind ends_part colons (ty_items ty) (types_last levels TyPlace.Whole ty is.4))))
+    part_at takes_annotation refl place (exp_items part ++ (colons ∷ (ty_items ty))) is.0 (ends_after ends_part (exp_items part) (colons ∷ (ty_items ty)) (ends_behind ends_part colons (ty_items ty) (types_last levels TyPlace.Whole ty is.4)))
 exp_level levels below free place (Exp-F.Fields part left fields right) is = elim is [ ]
 
 -- right sides
@@ -228,35 +227,35 @@ decl_at : (takes : DeclPlace → Bool) → takes DeclPlace.First ≡ false → (
 decl_at takes none DeclPlace.First items t e = let no : ⊥ = cc in elim no [ ]
 decl_at takes none _ items t e = e
 
-decl_level : (levels : ℕ) → Below levels → (place : DeclPlace) (layer : Decl-F Decl Exp Qualifier Alt) → DeclProduction (nodes levels) place layer → Ends (ends_declaration place) (decl_items (roll-Decl layer))
+decl_level : (levels : ℕ) → Below levels → (place : DeclPlace) (layer : Decl-F Decl Exp Qualifier Alt) → DeclProduction (nodes levels) place layer → Ends (ends_declaration place) (decl_joined layer)
 decl_level levels below place (Decl-F.Import import) is =
-    subst (Ends (ends_declaration place)) (sym (fold-roll-Decl (List Item) (List Item) (List Item) (List Item) decl_layer exp_layer qualifier_layer alt_layer (Decl-F.Import import))) (import_at place (import_items import) is.0
-    (import_ends import is.1))
+    import_at place (import_items import) is.0
+    (import_ends import is.1)
 decl_level levels below place (Decl-F.Synonym word head equals ty) is =
-    subst (Ends (ends_declaration place)) (sym (fold-roll-Decl (List Item) (List Item) (List Item) (List Item) decl_layer exp_layer qualifier_layer alt_layer (Decl-F.Synonym word head equals ty))) (decl_at takes_top refl place (word ∷ (type_head_items head ++ (equals ∷ (ty_items ty)))) is.0
-    (ends_behind ends_part word (type_head_items head ++ (equals ∷ (ty_items ty))) (ends_after ends_part (type_head_items head) (equals ∷ (ty_items ty)) (ends_behind ends_part equals (ty_items ty) (types_last levels TyPlace.Whole ty is.4)))))
+    decl_at takes_top refl place (word ∷ (type_head_items head ++ (equals ∷ (ty_items ty)))) is.0
+    (ends_behind ends_part word (type_head_items head ++ (equals ∷ (ty_items ty))) (ends_after ends_part (type_head_items head) (equals ∷ (ty_items ty)) (ends_behind ends_part equals (ty_items ty) (types_last levels TyPlace.Whole ty is.4))))
 decl_level levels below place (Decl-F.Data word head equals constructions) is =
-    subst (Ends (ends_declaration place)) (sym (fold-roll-Decl (List Item) (List Item) (List Item) (List Item) decl_layer exp_layer qualifier_layer alt_layer (Decl-F.Data word head equals constructions))) (decl_at takes_top refl place (word ∷ (type_head_items head ++ (equals ∷ (flat_map (listed_items construction_items) constructions)))) is.0
-    (ends_behind ends_part word (type_head_items head ++ (equals ∷ (flat_map (listed_items construction_items) constructions))) (ends_after ends_part (type_head_items head) (equals ∷ (flat_map (listed_items construction_items) constructions)) (ends_behind ends_part equals (flat_map (listed_items construction_items) constructions) (separated_end ends_part IsBar construction_items (IsConstructionOver (nodes levels)) (construction_ends levels) constructions is.5 is.4)))))
+    decl_at takes_top refl place (word ∷ (type_head_items head ++ (equals ∷ (flat_map (listed_items construction_items) constructions)))) is.0
+    (ends_behind ends_part word (type_head_items head ++ (equals ∷ (flat_map (listed_items construction_items) constructions))) (ends_after ends_part (type_head_items head) (equals ∷ (flat_map (listed_items construction_items) constructions)) (ends_behind ends_part equals (flat_map (listed_items construction_items) constructions) (separated_end ends_part IsBar construction_items (IsConstructionOver (nodes levels)) (construction_ends levels) constructions is.5 is.4))))
 decl_level levels below place (Decl-F.Newtype word head equals construction) is =
-    subst (Ends (ends_declaration place)) (sym (fold-roll-Decl (List Item) (List Item) (List Item) (List Item) decl_layer exp_layer qualifier_layer alt_layer (Decl-F.Newtype word head equals construction))) (decl_at takes_top refl place (word ∷ (type_head_items head ++ (equals ∷ (construction_items construction)))) is.0
-    (ends_behind ends_part word (type_head_items head ++ (equals ∷ (construction_items construction))) (ends_after ends_part (type_head_items head) (equals ∷ (construction_items construction)) (ends_behind ends_part equals (construction_items construction) (new_construction_ends levels construction is.4)))))
+    decl_at takes_top refl place (word ∷ (type_head_items head ++ (equals ∷ (construction_items construction)))) is.0
+    (ends_behind ends_part word (type_head_items head ++ (equals ∷ (construction_items construction))) (ends_after ends_part (type_head_items head) (equals ∷ (construction_items construction)) (ends_behind ends_part equals (construction_items construction) (new_construction_ends levels construction is.4))))
 decl_level levels below place (Decl-F.Signature names colons ty) is =
-    subst (Ends (ends_declaration place)) (sym (fold-roll-Decl (List Item) (List Item) (List Item) (List Item) decl_layer exp_layer qualifier_layer alt_layer (Decl-F.Signature names colons ty))) (decl_at takes_local refl place (flat_map (listed_items variable_items) names ++ (colons ∷ (ty_items ty))) is.0
-    (ends_after ends_part (flat_map (listed_items variable_items) names) (colons ∷ (ty_items ty)) (ends_behind ends_part colons (ty_items ty) (types_last levels TyPlace.Whole ty is.4))))
+    decl_at takes_local refl place (flat_map (listed_items variable_items) names ++ (colons ∷ (ty_items ty))) is.0
+    (ends_after ends_part (flat_map (listed_items variable_items) names) (colons ∷ (ty_items ty)) (ends_behind ends_part colons (ty_items ty) (types_last levels TyPlace.Whole ty is.4)))
 decl_level levels below place (Decl-F.Fixity word level operators) is =
-    subst (Ends (ends_declaration place)) (sym (fold-roll-Decl (List Item) (List Item) (List Item) (List Item) decl_layer exp_layer qualifier_layer alt_layer (Decl-F.Fixity word level operators))) (decl_at takes_local refl place (word ∷ (maybe_item level ++ (flat_map (listed_items operator_items) operators))) is.0
-    (ends_behind ends_part word (maybe_item level ++ (flat_map (listed_items operator_items) operators)) (ends_after ends_part (maybe_item level) (flat_map (listed_items operator_items) operators) (separated_end ends_part IsComma operator_items IsOwnOperator own_operator_ends operators is.5 is.4))))
+    decl_at takes_local refl place (word ∷ (maybe_item level ++ (flat_map (listed_items operator_items) operators))) is.0
+    (ends_behind ends_part word (maybe_item level ++ (flat_map (listed_items operator_items) operators)) (ends_after ends_part (maybe_item level) (flat_map (listed_items operator_items) operators) (separated_end ends_part IsComma operator_items IsOwnOperator own_operator_ends operators is.5 is.4)))
 decl_level levels below place (Decl-F.Equation left body locals) is =
-    subst (Ends (ends_declaration place)) (sym (ap decl_items (rolls-Equation left body locals) ∙ decl_equation left body locals)) (decl_at takes_local refl place (left_side_items left ++ (body_items exp_items body ++ where_items decl_items locals)) is.0
-    (ends_after ends_part (left_side_items left) (body_items exp_items body ++ where_items decl_items locals) (right_side_ends levels below IsEquals body is.2 locals is.3)))
+    decl_at takes_local refl place (left_side_items left ++ (body_items exp_items body ++ where_items decl_items locals)) is.0
+    (ends_after ends_part (left_side_items left) (body_items exp_items body ++ where_items decl_items locals) (right_side_ends levels below IsEquals body is.2 locals is.3))
 decl_level levels below place (Decl-F.Binding pattern body locals) is =
-    subst (Ends (ends_declaration place)) (sym (ap decl_items (rolls-Binding pattern body locals) ∙ decl_binding pattern body locals)) (decl_at takes_local refl place (pat_items pattern ++ (body_items exp_items body ++ where_items decl_items locals)) is.0
-    (ends_after ends_part (pat_items pattern) (body_items exp_items body ++ where_items decl_items locals) (right_side_ends levels below IsEquals body is.2 locals is.3)))
+    decl_at takes_local refl place (pat_items pattern ++ (body_items exp_items body ++ where_items decl_items locals)) is.0
+    (ends_after ends_part (pat_items pattern) (body_items exp_items body ++ where_items decl_items locals) (right_side_ends levels below IsEquals body is.2 locals is.3))
 
 alt_ends : (levels : ℕ) → Below levels → (alt : Alt) → IsAltOver (nodes levels) alt → Ends ends_part (alt_items alt)
 alt_ends levels below alt is =
-    subst (Ends ends_part) (sym (alt_whole alt)) (ends_after ends_part (pat_items (out-Alt alt).pattern) (body_items exp_items (out-Alt alt).body ++ where_items decl_items (out-Alt alt).locals)
+    subst (Ends ends_part) (sym (yields_join_lem.alt alt)) (ends_after ends_part (pat_items (out-Alt alt).pattern) (body_items exp_items (out-Alt alt).body ++ where_items decl_items (out-Alt alt).locals)
     (right_side_ends levels below IsArrow (out-Alt alt).body is.1.0 (out-Alt alt).locals is.1.1))
 
 all_below : (levels : ℕ) → Below levels
@@ -268,8 +267,8 @@ all_below zero = record {
   alternatives = λ word t block is. elim is [ ];
 }
 all_below (suc levels) = let below = all_below levels in record {
-  exp = λ free place part is. subst (λ e. Ends (ends_expression place) (exp_items e)) (roll-out-Exp part) (exp_level levels below free place (out-Exp part) is);
-  decl = λ place part is. subst (λ d. Ends (ends_declaration place) (decl_items d)) (roll-out-Decl part) (decl_level levels below place (out-Decl part) is);
+  exp = λ free place part is. subst (Ends (ends_expression place)) (sym (yields_join_lem.exp part)) (exp_level levels below free place (out-Exp part) is);
+  decl = λ place part is. subst (Ends (ends_declaration place)) (sym (yields_join_lem.decl part)) (decl_level levels below place (out-Decl part) is);
   alt = alt_ends levels below;
   locals = λ word t block is. block_ends ends_part decl_items ((nodes levels).decl DeclPlace.Local) refl refl (below.decl DeclPlace.Local) word t block.layout block.pieces is.0 is.1;
   alternatives = λ word t block is. block_ends ends_part alt_items (nodes levels).alt refl refl below.alt word t block.layout block.pieces is.0 is.1;

@@ -1,7 +1,8 @@
 -- The blocks of declarations and alternatives begin behind their opening words, and so those of all trees: one
 -- recursion on the levels.
-use Rattle.std.proofs.Common.{◌≡◌, ℕ, zero, suc, true, false, List, [], ◌∷◌, ◌++◌, map, Option, Some, None, refl, sym, ap, ◌∙◌, subst}
+use Rattle.std.proofs.Common.{◌≡◌, ℕ, zero, suc, true, false, List, [], ◌∷◌, ◌++◌, map, Option, Some, None, refl, sym, ap, subst}
 use Rattle.std.specs.List.{AllByRecursion, flat_map}
+use Rattle.std.proofs.lemmas.List.{append-nil}
 use lib.Chars.{codes}
 use Rattle.hr_base.specs.declared.lexeme.Class.{Class}
 use Rattle.hr_base.specs.declared.lexeme.Ending.{Ending}
@@ -19,11 +20,11 @@ use Rattle.hr_tree.specs.declared.expressions.Alt.{Alt, out-Alt, roll-Alt}
 use Rattle.hr_tree.specs.declared.expressions.Qualifier.{Qualifier}
 use Rattle.hr_tree.specs.declared.expressions.Decl.TheOpen.{Decl-F}
 use Rattle.hr_tree.specs.declared.expressions.Decl.TheFolds.{fold-roll-Decl, fold-roll-Alt}
-use Rattle.hr_tree.specs.declared.expressions.Decl.TheViews.{roll-out-Exp, roll-out-Decl, roll-out-Alt, rolls-Equation, rolls-Binding}
+use Rattle.hr_tree.specs.declared.expressions.Decl.TheViews.{roll-out-Exp, roll-out-Decl, roll-out-Alt}
 use Rattle.hr_tree.specs.Names.{variable_items, operator_items, maybe_item}
 use Rattle.hr_tree.specs.Lists.{listed_items, piece_items, block_items, guarded_items, body_items, where_items}
-use Rattle.hr_tree.specs.Yields.{ty_items, pat_items, type_head_items, construction_items, left_side_items, import_items, exp_layer, decl_layer, qualifier_layer, alt_layer, exp_items, decl_items, alt_items}
-use Rattle.hr_tree.proofs.ExpressionYields.{decl_equation, decl_binding, alt_whole}
+use Rattle.hr_tree.specs.Yields.{ty_items, pat_items, type_head_items, construction_items, left_side_items, import_items, exp_items, decl_items, alt_items}
+use Rattle.hr_tree.proofs.ExpressionYields.{alt_whole}
 use Rattle.hr_grammar.specs.Words.{IsComma, IsEquals, IsArrow}
 use Rattle.hr_grammar.specs.Spelled.{IsVariable, IsOwnOperator}
 use Rattle.hr_grammar.specs.Nodes.{TyPlace, PatPlace, ExpPlace, DeclPlace}
@@ -31,6 +32,7 @@ use Rattle.hr_grammar.specs.Declarations.{DeclProduction, IsAltOver, IsGuardedOv
 use Rattle.hr_grammar.specs.Blocks.{IsPiece}
 use Rattle.hr_grammar.specs.Yields.{nodes, AreDeclarationsOver, AreAlternativesOver}
 use Rattle.hr_grammar.specs.Spans.{Laid, row, piece_laid, guarded_laid, body_laid, right_side_laid, block_laid, exp_laid, decl_laid, qualifier_laid, alt_laid, laid_of}
+use Rattle.hr_grammar.proofs.Joins.{decl_layers}
 use Rattle.hr_grammar.proofs.walk.Lists.{maybe, separated}
 use Rattle.hr_grammar.proofs.walk.Names.{of_class, comma, variable, own_operator}
 use Rattle.hr_grammar.proofs.walk.TypesAndPatterns.{types_keep, patterns_keep}
@@ -38,7 +40,7 @@ use Rattle.hr_grammar.proofs.walk.Heads.{type_head_keeps, constructions_keep, ne
 use Rattle.hr_grammar.proofs.walk.Imports.{import_keeps}
 use Rattle.hr_edges.specs.Openings.{IsPlain, IsLaidBy}
 use Rattle.hr_edges.specs.Laws.{exp_stretch, alt_stretch}
-use Rattle.hr_edges.proofs.Openings.{append_nothing, same, plain, join, ends_as, IsBlockBy, opened, piece_by, pieces_by, braced_by}
+use Rattle.hr_edges.proofs.Openings.{same, plain, join, ends_as, IsBlockBy, opened, piece_by, pieces_by, braced_by}
 use Rattle.hr_edges.proofs.Plain.{of_text, plain_types, plain_patterns}
 use Rattle.hr_edges.proofs.Stretches.{Below, token, opens, exp_level}
 
@@ -70,7 +72,7 @@ abbrev turned_where : (Piece Decl → Piece Laid) → Where Decl → Where Laid
 turned_where turn locals = record { word = locals.word; block = record { layout = locals.block.layout; pieces = map turn locals.block.pieces } }
 
 no_where : {items : List Item} (body : Body Laid) → IsLaidBy items (body_laid body) → IsLaidBy (items ++ []) (right_side_laid body None)
-no_where {items} body is = same (append_nothing items) refl is
+no_where {items} body is = same (append-nil items) refl is
 
 with_where : (levels : ℕ) → Below levels → {items : List Item} (body : Body Laid) → IsLaidBy items (body_laid body)
     → (locals : Where Decl) → IsWhereOver (nodes levels) (Some locals)
@@ -87,46 +89,46 @@ arrow_plain item is = of_text Class.ReservedOp (codes "->") item is refl
 
 decl_level : (levels : ℕ) → Below levels → (place : DeclPlace) (layer : Decl-F Decl Exp Qualifier Alt) → DeclProduction (nodes levels) place layer → IsLaidBy (decl_items (roll-Decl layer)) (laid_of (roll-Decl layer))
 decl_level levels below place (Decl-F.Import import) is =
-    same (fold-roll-Decl (List Item) (List Item) (List Item) (List Item) decl_layer exp_layer qualifier_layer alt_layer (Decl-F.Import import)) (fold-roll-Decl Laid Laid Laid Laid decl_laid exp_laid qualifier_laid alt_laid (Decl-F.Import import))
+    same (decl_layers (Decl-F.Import import)) (fold-roll-Decl Laid Laid Laid Laid decl_laid exp_laid qualifier_laid alt_laid (Decl-F.Import import))
     (ends_as Ending.Nothing (plain (import_items import) (import_keeps plain_patterns import is.1)))
 decl_level levels below place (Decl-F.Synonym word head equals ty) is =
-    same (fold-roll-Decl (List Item) (List Item) (List Item) (List Item) decl_layer exp_layer qualifier_layer alt_layer (Decl-F.Synonym word head equals ty)) (fold-roll-Decl Laid Laid Laid Laid decl_laid exp_laid qualifier_laid alt_laid (Decl-F.Synonym word head equals ty))
+    same (decl_layers (Decl-F.Synonym word head equals ty)) (fold-roll-Decl Laid Laid Laid Laid decl_laid exp_laid qualifier_laid alt_laid (Decl-F.Synonym word head equals ty))
     (ends_as Ending.Nothing (join (token (codes "type") Class.ReservedId word is.1 refl) (join (plain (type_head_items head) (type_head_keeps plain_patterns head is.2)) (join (token (codes "=") Class.ReservedOp equals is.3 refl) (plain (ty_items ty) (types_keep plain_types levels TyPlace.Whole ty is.4))))))
 decl_level levels below place (Decl-F.Data word head equals constructions) is =
-    same (fold-roll-Decl (List Item) (List Item) (List Item) (List Item) decl_layer exp_layer qualifier_layer alt_layer (Decl-F.Data word head equals constructions)) (fold-roll-Decl Laid Laid Laid Laid decl_laid exp_laid qualifier_laid alt_laid (Decl-F.Data word head equals constructions))
+    same (decl_layers (Decl-F.Data word head equals constructions)) (fold-roll-Decl Laid Laid Laid Laid decl_laid exp_laid qualifier_laid alt_laid (Decl-F.Data word head equals constructions))
     (ends_as Ending.Nothing (join (token (codes "data") Class.ReservedId word is.1 refl) (join (plain (type_head_items head) (type_head_keeps plain_patterns head is.2)) (join (token (codes "=") Class.ReservedOp equals is.3 refl) (plain (flat_map (listed_items construction_items) constructions) (constructions_keep plain_types levels constructions is.4))))))
 decl_level levels below place (Decl-F.Newtype word head equals construction) is =
-    same (fold-roll-Decl (List Item) (List Item) (List Item) (List Item) decl_layer exp_layer qualifier_layer alt_layer (Decl-F.Newtype word head equals construction)) (fold-roll-Decl Laid Laid Laid Laid decl_laid exp_laid qualifier_laid alt_laid (Decl-F.Newtype word head equals construction))
+    same (decl_layers (Decl-F.Newtype word head equals construction)) (fold-roll-Decl Laid Laid Laid Laid decl_laid exp_laid qualifier_laid alt_laid (Decl-F.Newtype word head equals construction))
     (ends_as Ending.Nothing (join (token (codes "newtype") Class.ReservedId word is.1 refl) (join (plain (type_head_items head) (type_head_keeps plain_patterns head is.2)) (join (token (codes "=") Class.ReservedOp equals is.3 refl) (plain (construction_items construction) (new_construction_keeps plain_types levels construction is.4))))))
 decl_level levels below place (Decl-F.Signature names colons ty) is =
-    same (fold-roll-Decl (List Item) (List Item) (List Item) (List Item) decl_layer exp_layer qualifier_layer alt_layer (Decl-F.Signature names colons ty)) (fold-roll-Decl Laid Laid Laid Laid decl_laid exp_laid qualifier_laid alt_laid (Decl-F.Signature names colons ty))
+    same (decl_layers (Decl-F.Signature names colons ty)) (fold-roll-Decl Laid Laid Laid Laid decl_laid exp_laid qualifier_laid alt_laid (Decl-F.Signature names colons ty))
     (ends_as Ending.Signature (join (plain (flat_map (listed_items variable_items) names) (separated plain_patterns.joins variable_items IsComma IsVariable (comma plain_patterns) (variable plain_patterns) names is.1)) (join (token (codes "::") Class.ReservedOp colons is.3 refl) (plain (ty_items ty) (types_keep plain_types levels TyPlace.Whole ty is.4)))))
 decl_level levels below place (Decl-F.Fixity word level operators) is =
-    same (fold-roll-Decl (List Item) (List Item) (List Item) (List Item) decl_layer exp_layer qualifier_layer alt_layer (Decl-F.Fixity word level operators)) (fold-roll-Decl Laid Laid Laid Laid decl_laid exp_laid qualifier_laid alt_laid (Decl-F.Fixity word level operators))
+    same (decl_layers (Decl-F.Fixity word level operators)) (fold-roll-Decl Laid Laid Laid Laid decl_laid exp_laid qualifier_laid alt_laid (Decl-F.Fixity word level operators))
     (ends_as Ending.Fixity (join (plain (word ∷ []) (fixity_keeps plain_patterns word is.1 is.2)) (join (plain (maybe_item level) (maybe plain_patterns.joins IsDigit (λ item d. of_class plain_patterns Class.Integer item d.0 refl) level is.3)) (plain (flat_map (listed_items operator_items) operators) (separated plain_patterns.joins operator_items IsComma IsOwnOperator (comma plain_patterns) (own_operator plain_patterns) operators is.4)))))
 decl_level levels below place (Decl-F.Equation left (Body.Plain mark body) None) is =
-    same (ap decl_items (rolls-Equation left (Body.Plain mark body) None) ∙ decl_equation left (Body.Plain mark body) None) (fold-roll-Decl Laid Laid Laid Laid decl_laid exp_laid qualifier_laid alt_laid (Decl-F.Equation left (Body.Plain mark body) None))
+    same (decl_layers (Decl-F.Equation left (Body.Plain mark body) None)) (fold-roll-Decl Laid Laid Laid Laid decl_laid exp_laid qualifier_laid alt_laid (Decl-F.Equation left (Body.Plain mark body) None))
     (join (plain (left_side_items left) (left_side_keeps plain_patterns levels left is.1)) (no_where (turned_body (Body.Plain mark body)) (body_by levels below IsEquals equals_plain (Body.Plain mark body) is.2)))
 decl_level levels below place (Decl-F.Equation left (Body.Plain mark body) (Some locals)) is =
-    same (ap decl_items (rolls-Equation left (Body.Plain mark body) (Some locals)) ∙ decl_equation left (Body.Plain mark body) (Some locals)) (fold-roll-Decl Laid Laid Laid Laid decl_laid exp_laid qualifier_laid alt_laid (Decl-F.Equation left (Body.Plain mark body) (Some locals)))
+    same (decl_layers (Decl-F.Equation left (Body.Plain mark body) (Some locals))) (fold-roll-Decl Laid Laid Laid Laid decl_laid exp_laid qualifier_laid alt_laid (Decl-F.Equation left (Body.Plain mark body) (Some locals)))
     (join (plain (left_side_items left) (left_side_keeps plain_patterns levels left is.1)) (with_where levels below (turned_body (Body.Plain mark body)) (body_by levels below IsEquals equals_plain (Body.Plain mark body) is.2) locals is.3 _ (λ item. refl) (λ part. refl)))
 decl_level levels below place (Decl-F.Equation left (Body.Guarded list) None) is =
-    same (ap decl_items (rolls-Equation left (Body.Guarded list) None) ∙ decl_equation left (Body.Guarded list) None) (fold-roll-Decl Laid Laid Laid Laid decl_laid exp_laid qualifier_laid alt_laid (Decl-F.Equation left (Body.Guarded list) None))
+    same (decl_layers (Decl-F.Equation left (Body.Guarded list) None)) (fold-roll-Decl Laid Laid Laid Laid decl_laid exp_laid qualifier_laid alt_laid (Decl-F.Equation left (Body.Guarded list) None))
     (join (plain (left_side_items left) (left_side_keeps plain_patterns levels left is.1)) (no_where (turned_body (Body.Guarded list)) (body_by levels below IsEquals equals_plain (Body.Guarded list) is.2)))
 decl_level levels below place (Decl-F.Equation left (Body.Guarded list) (Some locals)) is =
-    same (ap decl_items (rolls-Equation left (Body.Guarded list) (Some locals)) ∙ decl_equation left (Body.Guarded list) (Some locals)) (fold-roll-Decl Laid Laid Laid Laid decl_laid exp_laid qualifier_laid alt_laid (Decl-F.Equation left (Body.Guarded list) (Some locals)))
+    same (decl_layers (Decl-F.Equation left (Body.Guarded list) (Some locals))) (fold-roll-Decl Laid Laid Laid Laid decl_laid exp_laid qualifier_laid alt_laid (Decl-F.Equation left (Body.Guarded list) (Some locals)))
     (join (plain (left_side_items left) (left_side_keeps plain_patterns levels left is.1)) (with_where levels below (turned_body (Body.Guarded list)) (body_by levels below IsEquals equals_plain (Body.Guarded list) is.2) locals is.3 _ (λ item. refl) (λ part. refl)))
 decl_level levels below place (Decl-F.Binding pattern (Body.Plain mark body) None) is =
-    same (ap decl_items (rolls-Binding pattern (Body.Plain mark body) None) ∙ decl_binding pattern (Body.Plain mark body) None) (fold-roll-Decl Laid Laid Laid Laid decl_laid exp_laid qualifier_laid alt_laid (Decl-F.Binding pattern (Body.Plain mark body) None))
+    same (decl_layers (Decl-F.Binding pattern (Body.Plain mark body) None)) (fold-roll-Decl Laid Laid Laid Laid decl_laid exp_laid qualifier_laid alt_laid (Decl-F.Binding pattern (Body.Plain mark body) None))
     (join (plain (pat_items pattern) (patterns_keep plain_patterns levels PatPlace.Whole pattern is.1)) (no_where (turned_body (Body.Plain mark body)) (body_by levels below IsEquals equals_plain (Body.Plain mark body) is.2)))
 decl_level levels below place (Decl-F.Binding pattern (Body.Plain mark body) (Some locals)) is =
-    same (ap decl_items (rolls-Binding pattern (Body.Plain mark body) (Some locals)) ∙ decl_binding pattern (Body.Plain mark body) (Some locals)) (fold-roll-Decl Laid Laid Laid Laid decl_laid exp_laid qualifier_laid alt_laid (Decl-F.Binding pattern (Body.Plain mark body) (Some locals)))
+    same (decl_layers (Decl-F.Binding pattern (Body.Plain mark body) (Some locals))) (fold-roll-Decl Laid Laid Laid Laid decl_laid exp_laid qualifier_laid alt_laid (Decl-F.Binding pattern (Body.Plain mark body) (Some locals)))
     (join (plain (pat_items pattern) (patterns_keep plain_patterns levels PatPlace.Whole pattern is.1)) (with_where levels below (turned_body (Body.Plain mark body)) (body_by levels below IsEquals equals_plain (Body.Plain mark body) is.2) locals is.3 _ (λ item. refl) (λ part. refl)))
 decl_level levels below place (Decl-F.Binding pattern (Body.Guarded list) None) is =
-    same (ap decl_items (rolls-Binding pattern (Body.Guarded list) None) ∙ decl_binding pattern (Body.Guarded list) None) (fold-roll-Decl Laid Laid Laid Laid decl_laid exp_laid qualifier_laid alt_laid (Decl-F.Binding pattern (Body.Guarded list) None))
+    same (decl_layers (Decl-F.Binding pattern (Body.Guarded list) None)) (fold-roll-Decl Laid Laid Laid Laid decl_laid exp_laid qualifier_laid alt_laid (Decl-F.Binding pattern (Body.Guarded list) None))
     (join (plain (pat_items pattern) (patterns_keep plain_patterns levels PatPlace.Whole pattern is.1)) (no_where (turned_body (Body.Guarded list)) (body_by levels below IsEquals equals_plain (Body.Guarded list) is.2)))
 decl_level levels below place (Decl-F.Binding pattern (Body.Guarded list) (Some locals)) is =
-    same (ap decl_items (rolls-Binding pattern (Body.Guarded list) (Some locals)) ∙ decl_binding pattern (Body.Guarded list) (Some locals)) (fold-roll-Decl Laid Laid Laid Laid decl_laid exp_laid qualifier_laid alt_laid (Decl-F.Binding pattern (Body.Guarded list) (Some locals)))
+    same (decl_layers (Decl-F.Binding pattern (Body.Guarded list) (Some locals))) (fold-roll-Decl Laid Laid Laid Laid decl_laid exp_laid qualifier_laid alt_laid (Decl-F.Binding pattern (Body.Guarded list) (Some locals)))
     (join (plain (pat_items pattern) (patterns_keep plain_patterns levels PatPlace.Whole pattern is.1)) (with_where levels below (turned_body (Body.Guarded list)) (body_by levels below IsEquals equals_plain (Body.Guarded list) is.2) locals is.3 _ (λ item. refl) (λ part. refl)))
 
 -- an alternative is a record, which is opened

@@ -4,7 +4,7 @@ use Rattle.hr_base.specs.declared.lexeme.Class.{Class}
 use Rattle.hr_base.specs.declared.lexeme.Item.{Item}
 use Rattle.hr_grammar.specs.Words.{IsText}
 use Rattle.hr_grammar.proofs.walk.Rules.{block_words, is_by_block, InPatterns, InTypes}
-use Rattle.hr_grammar.proofs.walk.Tables.{none_among}
+use Rattle.hr_grammar.proofs.Tables.{none_among}
 use Rattle.hr_grammar.proofs.walk.Names.{patterns_in}
 use Rattle.hr_grammar.proofs.walk.Without.{without_in_brackets}
 use Rattle.hr_edges.specs.Openings.{opening_words, opens_block, IsPlain, ArePlain}

@@ -1,6 +1,6 @@
 -- The blocks of expressions, declarations and alternatives begin behind their opening words: one recursion on the
 -- levels.
-use Rattle.std.proofs.Common.{◌≡◌, ℕ, Bool, true, false, List, [], ◌∷◌, map, refl, sym, ap, ap₂, ◌∙◌, subst}
+use Rattle.std.proofs.Common.{◌≡◌, ℕ, Bool, true, false, List, [], ◌∷◌, map, refl, sym, ap₂, ◌∙◌, subst}
 use Rattle.std.specs.List.{flat_map}
 use lib.Chars.{codes}
 use Rattle.hr_base.specs.declared.lexeme.Class.{Class}
@@ -16,16 +16,16 @@ use Rattle.hr_tree.specs.declared.expressions.Alt.{Alt}
 use Rattle.hr_tree.specs.declared.expressions.Qualifier.{Qualifier, out-Qualifier, roll-Qualifier}
 use Rattle.hr_tree.specs.declared.expressions.Decl.TheOpen.{Exp-F, Qualifier-F}
 use Rattle.hr_tree.specs.declared.expressions.Decl.TheFolds.{fold-roll-Exp, fold-roll-Qualifier}
-use Rattle.hr_tree.specs.declared.expressions.Decl.TheViews.{roll-out-Qualifier, rolls-Group, rolls-Tuple, rolls-List, rolls-From, rolls-FromThen, rolls-FromTo, rolls-FromThenTo, rolls-Comprehension, rolls-LeftSection, rolls-RightSection, rolls-Apply, rolls-Infix, rolls-Annotated, rolls-Lambda, rolls-Let, rolls-If, rolls-Case, rolls-Generator, rolls-Locals, rolls-Test}
+use Rattle.hr_tree.specs.declared.expressions.Decl.TheViews.{roll-out-Qualifier}
 use Rattle.hr_tree.specs.Names.{constructor_items, variable_items, operator_items, maybe_item, maybe_operator}
 use Rattle.hr_tree.specs.Lists.{operand_items, block_items}
-use Rattle.hr_tree.specs.Yields.{ty_items, pat_items, exp_layer, decl_layer, qualifier_layer, alt_layer, exp_items, decl_items, qualifier_items, alt_items}
-use Rattle.hr_tree.proofs.ExpressionYields.{exp_group, exp_tuple, exp_list, exp_from, exp_from_then, exp_from_to, exp_from_then_to, exp_comprehension, exp_left_section, exp_right_section, exp_apply, exp_infix, exp_annotated, exp_lambda, exp_let, exp_if, exp_case, qualifier_generator, qualifier_locals, qualifier_test}
+use Rattle.hr_tree.specs.Yields.{ty_items, pat_items, exp_items, decl_items, qualifier_items, alt_items}
 use Rattle.hr_grammar.specs.Words.{IsText, IsMinus, IsComma, IsWord}
 use Rattle.hr_grammar.specs.Nodes.{TyPlace, PatPlace, ExpPlace, DeclPlace}
 use Rattle.hr_grammar.specs.Expressions.{ExpProduction, QualifierProduction, IsQualifierOver, AreExpOperands, last_operand}
 use Rattle.hr_grammar.specs.Yields.{nodes}
 use Rattle.hr_grammar.specs.Spans.{Laid, one, row, operand_laid, block_laid, exp_laid, decl_laid, qualifier_laid, alt_laid, laid_of}
+use Rattle.hr_grammar.proofs.Joins.{exp_layers, qualifier_layers}
 use Rattle.hr_grammar.proofs.walk.Lists.{maybe, no_operator, all_of}
 use Rattle.hr_grammar.proofs.walk.Names.{minus, literal, constructor, named_variable, any_operator}
 use Rattle.hr_grammar.proofs.walk.TypesAndPatterns.{types_keep, patterns_keep}
@@ -75,13 +75,13 @@ operands levels below free last (operand ∷ (next ∷ rest)) is =
 
 qualifier_level : (levels : ℕ) → Below levels → (layer : Qualifier-F Decl Exp Qualifier Alt) → QualifierProduction (nodes levels) layer → IsLaidBy (qualifier_items (roll-Qualifier layer)) (qualifier_stretch (roll-Qualifier layer))
 qualifier_level levels below (Qualifier-F.Generator pattern arrow part) is =
-    same (ap qualifier_items (rolls-Generator pattern arrow part) ∙ qualifier_generator pattern arrow part) (fold-roll-Qualifier Laid Laid Laid Laid decl_laid exp_laid qualifier_laid alt_laid (Qualifier-F.Generator pattern arrow part))
+    same (qualifier_layers (Qualifier-F.Generator pattern arrow part)) (fold-roll-Qualifier Laid Laid Laid Laid decl_laid exp_laid qualifier_laid alt_laid (Qualifier-F.Generator pattern arrow part))
     (join (plain (pat_items pattern) (patterns_keep plain_patterns levels PatPlace.Whole pattern is.0)) (join (token (codes "<-") Class.ReservedOp arrow is.1 refl) (below.exp true ExpPlace.Whole part is.2)))
 qualifier_level levels below (Qualifier-F.Locals word block) is =
-    same (ap qualifier_items (rolls-Locals word block) ∙ qualifier_locals word block) (fold-roll-Qualifier Laid Laid Laid Laid decl_laid exp_laid qualifier_laid alt_laid (Qualifier-F.Locals word block))
+    same (qualifier_layers (Qualifier-F.Locals word block)) (fold-roll-Qualifier Laid Laid Laid Laid decl_laid exp_laid qualifier_laid alt_laid (Qualifier-F.Locals word block))
     (opened word (opens (codes "let") word is.0 refl) (below.declarations BlockKind.Declarations DeclPlace.Local block is.1 _ (λ item. refl) (λ part. refl)))
 qualifier_level levels below (Qualifier-F.Test part) is =
-    same (ap qualifier_items (rolls-Test part) ∙ qualifier_test part) (fold-roll-Qualifier Laid Laid Laid Laid decl_laid exp_laid qualifier_laid alt_laid (Qualifier-F.Test part))
+    same (qualifier_layers (Qualifier-F.Test part)) (fold-roll-Qualifier Laid Laid Laid Laid decl_laid exp_laid qualifier_laid alt_laid (Qualifier-F.Test part))
     (below.exp true ExpPlace.Whole part is)
 
 pub qualifier : (levels : ℕ) → Below levels → (part : Qualifier) → IsQualifierOver (nodes levels) part → IsLaidBy (qualifier_items part) (qualifier_stretch part)
@@ -89,60 +89,60 @@ qualifier levels below part is = subst (λ q. IsLaidBy (qualifier_items q) (qual
 
 pub exp_level : (levels : ℕ) → Below levels → (free : Bool) (place : ExpPlace) (layer : Exp-F Decl Exp Qualifier Alt) → ExpProduction (nodes levels) free place layer → IsLaidBy (exp_items (roll-Exp layer)) (exp_stretch (roll-Exp layer))
 exp_level levels below free place (Exp-F.Variable named) is =
-    same (fold-roll-Exp (List Item) (List Item) (List Item) (List Item) decl_layer exp_layer qualifier_layer alt_layer (Exp-F.Variable named)) (fold-roll-Exp Laid Laid Laid Laid decl_laid exp_laid qualifier_laid alt_laid (Exp-F.Variable named)) (plain (variable_items named) (named_variable plain_patterns named is))
+    same (exp_layers (Exp-F.Variable named)) (fold-roll-Exp Laid Laid Laid Laid decl_laid exp_laid qualifier_laid alt_laid (Exp-F.Variable named)) (plain (variable_items named) (named_variable plain_patterns named is))
 exp_level levels below free place (Exp-F.Constructor named) is =
-    same (fold-roll-Exp (List Item) (List Item) (List Item) (List Item) decl_layer exp_layer qualifier_layer alt_layer (Exp-F.Constructor named)) (fold-roll-Exp Laid Laid Laid Laid decl_laid exp_laid qualifier_laid alt_laid (Exp-F.Constructor named)) (plain (constructor_items named) (constructor plain_patterns named is))
+    same (exp_layers (Exp-F.Constructor named)) (fold-roll-Exp Laid Laid Laid Laid decl_laid exp_laid qualifier_laid alt_laid (Exp-F.Constructor named)) (plain (constructor_items named) (constructor plain_patterns named is))
 exp_level levels below free place (Exp-F.Literal item) is =
-    same (fold-roll-Exp (List Item) (List Item) (List Item) (List Item) decl_layer exp_layer qualifier_layer alt_layer (Exp-F.Literal item)) (fold-roll-Exp Laid Laid Laid Laid decl_laid exp_laid qualifier_laid alt_laid (Exp-F.Literal item)) (plain (item ∷ []) (literal plain_patterns item is))
+    same (exp_layers (Exp-F.Literal item)) (fold-roll-Exp Laid Laid Laid Laid decl_laid exp_laid qualifier_laid alt_laid (Exp-F.Literal item)) (plain (item ∷ []) (literal plain_patterns item is))
 exp_level levels below free place (Exp-F.Group left part right) is =
-    same (ap exp_items (rolls-Group left part right) ∙ exp_group left part right) (fold-roll-Exp Laid Laid Laid Laid decl_laid exp_laid qualifier_laid alt_laid (Exp-F.Group left part right))
+    same (exp_layers (Exp-F.Group left part right)) (fold-roll-Exp Laid Laid Laid Laid decl_laid exp_laid qualifier_laid alt_laid (Exp-F.Group left part right))
     (join (bracket (codes "(") left is.0) (join (below.exp true ExpPlace.Whole part is.1) (bracket (codes ")") right is.2)))
 exp_level levels below free place (Exp-F.Tuple left parts right) is =
-    same (ap exp_items (rolls-Tuple left parts right) ∙ exp_tuple left parts right) (fold-roll-Exp Laid Laid Laid Laid decl_laid exp_laid qualifier_laid alt_laid (Exp-F.Tuple left parts right))
+    same (exp_layers (Exp-F.Tuple left parts right)) (fold-roll-Exp Laid Laid Laid Laid decl_laid exp_laid qualifier_laid alt_laid (Exp-F.Tuple left parts right))
     (join (bracket (codes "(") left is.0) (join (separated_by IsComma comma_plain ((nodes levels).exp true ExpPlace.Whole) exp_items exp_stretch (below.exp true ExpPlace.Whole) parts is.1) (bracket (codes ")") right is.3)))
 exp_level levels below free place (Exp-F.List left parts right) is =
-    same (ap exp_items (rolls-List left parts right) ∙ exp_list left parts right) (fold-roll-Exp Laid Laid Laid Laid decl_laid exp_laid qualifier_laid alt_laid (Exp-F.List left parts right))
+    same (exp_layers (Exp-F.List left parts right)) (fold-roll-Exp Laid Laid Laid Laid decl_laid exp_laid qualifier_laid alt_laid (Exp-F.List left parts right))
     (join (bracket (codes "[") left is.0) (join (separated_by IsComma comma_plain ((nodes levels).exp true ExpPlace.Whole) exp_items exp_stretch (below.exp true ExpPlace.Whole) parts is.1) (bracket (codes "]") right is.3)))
 exp_level levels below free place (Exp-F.From left first dots right) is =
-    same (ap exp_items (rolls-From left first dots right) ∙ exp_from left first dots right) (fold-roll-Exp Laid Laid Laid Laid decl_laid exp_laid qualifier_laid alt_laid (Exp-F.From left first dots right))
+    same (exp_layers (Exp-F.From left first dots right)) (fold-roll-Exp Laid Laid Laid Laid decl_laid exp_laid qualifier_laid alt_laid (Exp-F.From left first dots right))
     (join (bracket (codes "[") left is.0) (join (below.exp true ExpPlace.Whole first is.1) (join (token (codes "..") Class.ReservedOp dots is.2 refl) (bracket (codes "]") right is.3))))
 exp_level levels below free place (Exp-F.FromThen left first comma second dots right) is =
-    same (ap exp_items (rolls-FromThen left first comma second dots right) ∙ exp_from_then left first comma second dots right) (fold-roll-Exp Laid Laid Laid Laid decl_laid exp_laid qualifier_laid alt_laid (Exp-F.FromThen left first comma second dots right))
+    same (exp_layers (Exp-F.FromThen left first comma second dots right)) (fold-roll-Exp Laid Laid Laid Laid decl_laid exp_laid qualifier_laid alt_laid (Exp-F.FromThen left first comma second dots right))
     (join (bracket (codes "[") left is.0) (join (below.exp true ExpPlace.Whole first is.1) (join (bracket (codes ",") comma is.2) (join (below.exp true ExpPlace.Whole second is.3) (join (token (codes "..") Class.ReservedOp dots is.4 refl) (bracket (codes "]") right is.5))))))
 exp_level levels below free place (Exp-F.FromTo left first dots last right) is =
-    same (ap exp_items (rolls-FromTo left first dots last right) ∙ exp_from_to left first dots last right) (fold-roll-Exp Laid Laid Laid Laid decl_laid exp_laid qualifier_laid alt_laid (Exp-F.FromTo left first dots last right))
+    same (exp_layers (Exp-F.FromTo left first dots last right)) (fold-roll-Exp Laid Laid Laid Laid decl_laid exp_laid qualifier_laid alt_laid (Exp-F.FromTo left first dots last right))
     (join (bracket (codes "[") left is.0) (join (below.exp true ExpPlace.Whole first is.1) (join (token (codes "..") Class.ReservedOp dots is.2 refl) (join (below.exp true ExpPlace.Whole last is.3) (bracket (codes "]") right is.4)))))
 exp_level levels below free place (Exp-F.FromThenTo left first comma second dots last right) is =
-    same (ap exp_items (rolls-FromThenTo left first comma second dots last right) ∙ exp_from_then_to left first comma second dots last right) (fold-roll-Exp Laid Laid Laid Laid decl_laid exp_laid qualifier_laid alt_laid (Exp-F.FromThenTo left first comma second dots last right))
+    same (exp_layers (Exp-F.FromThenTo left first comma second dots last right)) (fold-roll-Exp Laid Laid Laid Laid decl_laid exp_laid qualifier_laid alt_laid (Exp-F.FromThenTo left first comma second dots last right))
     (join (bracket (codes "[") left is.0) (join (below.exp true ExpPlace.Whole first is.1) (join (bracket (codes ",") comma is.2) (join (below.exp true ExpPlace.Whole second is.3) (join (token (codes "..") Class.ReservedOp dots is.4 refl) (join (below.exp true ExpPlace.Whole last is.5) (bracket (codes "]") right is.6)))))))
 exp_level levels below free place (Exp-F.Comprehension left part bar qualifiers right) is =
-    same (ap exp_items (rolls-Comprehension left part bar qualifiers right) ∙ exp_comprehension left part bar qualifiers right) (fold-roll-Exp Laid Laid Laid Laid decl_laid exp_laid qualifier_laid alt_laid (Exp-F.Comprehension left part bar qualifiers right))
+    same (exp_layers (Exp-F.Comprehension left part bar qualifiers right)) (fold-roll-Exp Laid Laid Laid Laid decl_laid exp_laid qualifier_laid alt_laid (Exp-F.Comprehension left part bar qualifiers right))
     (join (bracket (codes "[") left is.0) (join (below.exp true ExpPlace.Whole part is.1) (join (token (codes "|") Class.ReservedOp bar is.2 refl) (join (separated_by IsComma comma_plain (IsQualifierOver (nodes levels)) qualifier_items qualifier_stretch (qualifier levels below) qualifiers is.3) (bracket (codes "]") right is.5)))))
 exp_level levels below free place (Exp-F.LeftSection left part sign right) is =
-    same (ap exp_items (rolls-LeftSection left part sign right) ∙ exp_left_section left part sign right) (fold-roll-Exp Laid Laid Laid Laid decl_laid exp_laid qualifier_laid alt_laid (Exp-F.LeftSection left part sign right))
+    same (exp_layers (Exp-F.LeftSection left part sign right)) (fold-roll-Exp Laid Laid Laid Laid decl_laid exp_laid qualifier_laid alt_laid (Exp-F.LeftSection left part sign right))
     (join (bracket (codes "(") left is.0) (join (below.exp true ExpPlace.Sequence part is.1) (join (plain (operator_items sign) (any_operator plain_patterns sign is.2)) (bracket (codes ")") right is.3))))
 exp_level levels below free place (Exp-F.RightSection left sign part right) is =
-    same (ap exp_items (rolls-RightSection left sign part right) ∙ exp_right_section left sign part right) (fold-roll-Exp Laid Laid Laid Laid decl_laid exp_laid qualifier_laid alt_laid (Exp-F.RightSection left sign part right))
+    same (exp_layers (Exp-F.RightSection left sign part right)) (fold-roll-Exp Laid Laid Laid Laid decl_laid exp_laid qualifier_laid alt_laid (Exp-F.RightSection left sign part right))
     (join (bracket (codes "(") left is.0) (join (plain (operator_items sign) (any_operator plain_patterns sign is.1)) (join (below.exp true ExpPlace.Sequence part is.3) (bracket (codes ")") right is.4))))
 exp_level levels below free place (Exp-F.Apply atoms) is =
-    same (ap exp_items (rolls-Apply atoms) ∙ exp_apply atoms) (fold-roll-Exp Laid Laid Laid Laid decl_laid exp_laid qualifier_laid alt_laid (Exp-F.Apply atoms))
+    same (exp_layers (Exp-F.Apply atoms)) (fold-roll-Exp Laid Laid Laid Laid decl_laid exp_laid qualifier_laid alt_laid (Exp-F.Apply atoms))
     (all_by ((nodes levels).exp free ExpPlace.Atom) exp_items exp_stretch (below.exp free ExpPlace.Atom) atoms is.2)
 exp_level levels below free place (Exp-F.Case word part of_word block) is =
-    same (ap exp_items (rolls-Case word part of_word block) ∙ exp_case word part of_word block) (fold-roll-Exp Laid Laid Laid Laid decl_laid exp_laid qualifier_laid alt_laid (Exp-F.Case word part of_word block))
+    same (exp_layers (Exp-F.Case word part of_word block)) (fold-roll-Exp Laid Laid Laid Laid decl_laid exp_laid qualifier_laid alt_laid (Exp-F.Case word part of_word block))
     (ends_as (Ending.Closed true false) (join (token (codes "case") Class.ReservedId word is.1 refl) (join (below.exp free ExpPlace.Whole part is.2) (opened of_word (opens (codes "of") of_word is.3 refl) (below.alternatives block is.4 _ (λ item. refl) (λ alt. refl))))))
 exp_level levels below free place (Exp-F.Lambda mark patterns arrow body) is =
-    same (ap exp_items (rolls-Lambda mark patterns arrow body) ∙ exp_lambda mark patterns arrow body) (fold-roll-Exp Laid Laid Laid Laid decl_laid exp_laid qualifier_laid alt_laid (Exp-F.Lambda mark patterns arrow body))
+    same (exp_layers (Exp-F.Lambda mark patterns arrow body)) (fold-roll-Exp Laid Laid Laid Laid decl_laid exp_laid qualifier_laid alt_laid (Exp-F.Lambda mark patterns arrow body))
     (join (token (codes "\\") Class.ReservedOp mark is.1 refl) (join (plain (flat_map pat_items patterns) (all_of plain_patterns.joins pat_items ((nodes levels).pat PatPlace.Atomic) (patterns_keep plain_patterns levels PatPlace.Atomic) patterns is.3)) (join (token (codes "->") Class.ReservedOp arrow is.4 refl) (below.exp free ExpPlace.Whole body is.5))))
 exp_level levels below free place (Exp-F.Let word block in_word body) is =
-    same (ap exp_items (rolls-Let word block in_word body) ∙ exp_let word block in_word body) (fold-roll-Exp Laid Laid Laid Laid decl_laid exp_laid qualifier_laid alt_laid (Exp-F.Let word block in_word body))
+    same (exp_layers (Exp-F.Let word block in_word body)) (fold-roll-Exp Laid Laid Laid Laid decl_laid exp_laid qualifier_laid alt_laid (Exp-F.Let word block in_word body))
     (opened word (opens (codes "let") word is.1 refl) (join_block (below.declarations BlockKind.Declarations DeclPlace.Local block is.2 _ (λ item. refl) (λ part. refl)) (join (token (codes "in") Class.ReservedId in_word is.3 refl) (below.exp free ExpPlace.Whole body is.4))))
 exp_level levels below free place (Exp-F.If word test then_word first else_word second) is =
-    same (ap exp_items (rolls-If word test then_word first else_word second) ∙ exp_if word test then_word first else_word second) (fold-roll-Exp Laid Laid Laid Laid decl_laid exp_laid qualifier_laid alt_laid (Exp-F.If word test then_word first else_word second))
+    same (exp_layers (Exp-F.If word test then_word first else_word second)) (fold-roll-Exp Laid Laid Laid Laid decl_laid exp_laid qualifier_laid alt_laid (Exp-F.If word test then_word first else_word second))
     (join (token (codes "if") Class.ReservedId word is.1 refl) (join (below.exp free ExpPlace.Whole test is.2) (join (token (codes "then") Class.ReservedId then_word is.3 refl) (join (below.exp free ExpPlace.Whole first is.4) (join (token (codes "else") Class.ReservedId else_word is.5 refl) (below.exp free ExpPlace.Whole second is.6))))))
 exp_level levels below free place (Exp-F.Infix list) is =
-    same (ap exp_items (rolls-Infix list) ∙ exp_infix list) (fold-roll-Exp Laid Laid Laid Laid decl_laid exp_laid qualifier_laid alt_laid (Exp-F.Infix list))
+    same (exp_layers (Exp-F.Infix list)) (fold-roll-Exp Laid Laid Laid Laid decl_laid exp_laid qualifier_laid alt_laid (Exp-F.Infix list))
     (operands levels below free (last_operand place) list is.2)
 exp_level levels below free place (Exp-F.Annotated part colons ty) is =
-    same (ap exp_items (rolls-Annotated part colons ty) ∙ exp_annotated part colons ty) (fold-roll-Exp Laid Laid Laid Laid decl_laid exp_laid qualifier_laid alt_laid (Exp-F.Annotated part colons ty))
+    same (exp_layers (Exp-F.Annotated part colons ty)) (fold-roll-Exp Laid Laid Laid Laid decl_laid exp_laid qualifier_laid alt_laid (Exp-F.Annotated part colons ty))
     (ends_as (Ending.Annotated true false) (join (below.exp true ExpPlace.Annotated part is.2) (join (token (codes "::") Class.ReservedOp colons is.3 refl) (plain (ty_items ty) (types_keep plain_types levels TyPlace.Whole ty is.4)))))
 exp_level levels below free place (Exp-F.Fields part left fields right) is = elim is [ ]

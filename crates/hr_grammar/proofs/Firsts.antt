@@ -7,23 +7,17 @@ use Rattle.hr_rules.specs.declared.role.Role.{Role}
 use Rattle.hr_rules.specs.Roles.{role_by, role_of}
 use Rattle.hr_tree.specs.declared.names.Variable.{Variable}
 use Rattle.hr_tree.specs.declared.names.Constructor.{Constructor}
-use Rattle.hr_tree.specs.declared.types.Ty.{Ty, out-Ty, roll-Ty}
+use Rattle.hr_tree.specs.declared.types.Ty.{Ty, out-Ty}
 use Rattle.hr_tree.specs.declared.types.Ty.TheOpen.{Ty-F}
-use Rattle.hr_tree.specs.declared.types.Ty.TheFolds.{fold-roll-Ty}
-use Rattle.hr_tree.specs.declared.types.Ty.TheViews.{roll-out-Ty}
-use Rattle.hr_tree.specs.declared.patterns.Pat.{Pat, out-Pat, roll-Pat}
+use Rattle.hr_tree.specs.declared.patterns.Pat.{Pat, out-Pat}
 use Rattle.hr_tree.specs.declared.patterns.Pat.TheOpen.{Pat-F}
-use Rattle.hr_tree.specs.declared.patterns.Pat.TheFolds.{fold-roll-Pat}
-use Rattle.hr_tree.specs.declared.patterns.Pat.TheViews.{roll-out-Pat}
-use Rattle.hr_tree.specs.declared.expressions.Exp.{Exp, out-Exp, roll-Exp}
+use Rattle.hr_tree.specs.declared.expressions.Exp.{Exp, out-Exp}
 use Rattle.hr_tree.specs.declared.expressions.Decl.{Decl}
 use Rattle.hr_tree.specs.declared.expressions.Alt.{Alt}
 use Rattle.hr_tree.specs.declared.expressions.Qualifier.{Qualifier}
 use Rattle.hr_tree.specs.declared.expressions.Decl.TheOpen.{Exp-F}
-use Rattle.hr_tree.specs.declared.expressions.Decl.TheFolds.{fold-roll-Exp}
-use Rattle.hr_tree.specs.declared.expressions.Decl.TheViews.{roll-out-Exp}
 use Rattle.hr_tree.specs.Names.{constructor_items, variable_items, maybe_item, maybe_operator}
-use Rattle.hr_tree.specs.Yields.{ty_layer, ty_items, pat_layer, pat_items, decl_layer, exp_layer, qualifier_layer, alt_layer, exp_items}
+use Rattle.hr_tree.specs.Yields.{ty_items, pat_items, exp_items}
 use Rattle.hr_grammar.specs.Words.{IsOf, IsText, IsLiteral, IsMinus}
 use Rattle.hr_grammar.specs.Spelled.{Maybe, IsTypeConstructor, IsConstructor, IsVariable, IsNamedVariable}
 use Rattle.hr_grammar.specs.Nodes.{TyPlace, PatPlace, ExpPlace}
@@ -32,6 +26,8 @@ use Rattle.hr_grammar.specs.Patterns.{PatProduction}
 use Rattle.hr_grammar.specs.Expressions.{ExpProduction, last_operand}
 use Rattle.hr_grammar.specs.Yields.{nodes}
 use Rattle.hr_grammar.specs.Firsts.{Begins, begins_type, begins_pattern, begins_operand, opens_expression, BeginsExpression, TypesBegin, PatternsBegin, ExpressionsBegin}
+use Rattle.hr_grammar.specs.Joins.{ty_joined, pat_joined, exp_joined}
+use Rattle.hr_grammar.proofs.Joins.{yields_join_lem}
 
 -- a first item by its class, and by its class and text
 pub of_class : (test : Role → Bool) (class : Class) (item : Item) → IsOf class item → test (role_by class item.lexeme.text) ≡ true → test (role_of item.lexeme) ≡ true
@@ -81,70 +77,69 @@ literal_begins item (inr (inr is)) = of_class begins_pattern Class.Str item is r
 
 -- one level, where types on the level below begin so
 ty_level : (levels : ℕ) → ((place : TyPlace) (ty : Ty) → (nodes levels).ty place ty → Begins begins_type (ty_items ty))
-    → (place : TyPlace) (layer : Ty-F Ty) → TyProduction (nodes levels) place layer → Begins begins_type (ty_items (roll-Ty layer))
+    → (place : TyPlace) (layer : Ty-F Ty) → TyProduction (nodes levels) place layer → Begins begins_type (ty_joined layer)
 ty_level levels below place (Ty-F.Variable name) is =
-    subst (Begins begins_type) (sym (fold-roll-Ty (List Item) ty_layer (Ty-F.Variable name))) (of_class begins_type Class.VarId name is refl)
+    of_class begins_type Class.VarId name is refl
 ty_level levels below place (Ty-F.Constructor named) is =
-    subst (Begins begins_type) (sym (fold-roll-Ty (List Item) ty_layer (Ty-F.Constructor named))) (type_constructor_begins named is)
+    type_constructor_begins named is
 ty_level levels below place (Ty-F.Apply named arguments) is =
-    subst (Begins begins_type) (sym (fold-roll-Ty (List Item) ty_layer (Ty-F.Apply named arguments))) (begins_more begins_type (constructor_items named) _ (type_constructor_begins named is.1))
+    begins_more begins_type (constructor_items named) _ (type_constructor_begins named is.1)
 ty_level levels below place (Ty-F.Function from arrow to) is =
-    subst (Begins begins_type) (sym (fold-roll-Ty (List Item) ty_layer (Ty-F.Function from arrow to))) (begins_more begins_type (ty_items from) _ (below TyPlace.Applied from is.1))
+    begins_more begins_type (ty_items from) _ (below TyPlace.Applied from is.1)
 ty_level levels below place (Ty-F.Tuple left parts right) is =
-    subst (Begins begins_type) (sym (fold-roll-Ty (List Item) ty_layer (Ty-F.Tuple left parts right))) (left_paren begins_type refl left is.0)
+    left_paren begins_type refl left is.0
 ty_level levels below place (Ty-F.List left part right) is =
-    subst (Begins begins_type) (sym (fold-roll-Ty (List Item) ty_layer (Ty-F.List left part right))) (left_square begins_type refl left is.0)
+    left_square begins_type refl left is.0
 ty_level levels below place (Ty-F.Group left part right) is =
-    subst (Begins begins_type) (sym (fold-roll-Ty (List Item) ty_layer (Ty-F.Group left part right))) (left_paren begins_type refl left is.0)
+    left_paren begins_type refl left is.0
 
 pub types_begin_lem : TypesBegin
 types_begin_lem zero place ty is = elim is [ ]
 types_begin_lem (suc levels) place ty is =
-    subst (λ t. Begins begins_type (ty_items t)) (roll-out-Ty ty) (ty_level levels (types_begin_lem levels) place (out-Ty ty) is)
+    subst (Begins begins_type) (sym (yields_join_lem.ty ty)) (ty_level levels (types_begin_lem levels) place (out-Ty ty) is)
 
 pat_level : (levels : ℕ) → ((place : PatPlace) (pat : Pat) → (nodes levels).pat place pat → Begins begins_pattern (pat_items pat))
-    → (place : PatPlace) (layer : Pat-F Pat) → PatProduction (nodes levels) place layer → Begins begins_pattern (pat_items (roll-Pat layer))
+    → (place : PatPlace) (layer : Pat-F Pat) → PatProduction (nodes levels) place layer → Begins begins_pattern (pat_joined layer)
 pat_level levels below place (Pat-F.Variable bound) is =
-    subst (Begins begins_pattern) (sym (fold-roll-Pat (List Item) pat_layer (Pat-F.Variable bound))) (variable_begins bound is)
+    variable_begins bound is
 pat_level levels below place (Pat-F.Wildcard word) is =
-    subst (Begins begins_pattern) (sym (fold-roll-Pat (List Item) pat_layer (Pat-F.Wildcard word))) (of_text begins_pattern Class.ReservedId (codes "_") word is refl)
+    of_text begins_pattern Class.ReservedId (codes "_") word is refl
 pat_level levels below place (Pat-F.Literal literal) is =
-    subst (Begins begins_pattern) (sym (fold-roll-Pat (List Item) pat_layer (Pat-F.Literal literal))) (literal_begins literal is)
+    literal_begins literal is
 pat_level levels below place (Pat-F.Negative minus number) is =
-    subst (Begins begins_pattern) (sym (fold-roll-Pat (List Item) pat_layer (Pat-F.Negative minus number))) (of_text begins_pattern Class.VarSym (codes "-") minus is.1 refl)
+    of_text begins_pattern Class.VarSym (codes "-") minus is.1 refl
 pat_level levels below place (Pat-F.Constructor named) is =
-    subst (Begins begins_pattern) (sym (fold-roll-Pat (List Item) pat_layer (Pat-F.Constructor named))) (constructor_begins named is)
+    constructor_begins named is
 pat_level levels below place (Pat-F.As bound mark part) is =
-    subst (Begins begins_pattern) (sym (fold-roll-Pat (List Item) pat_layer (Pat-F.As bound mark part))) (begins_more begins_pattern (variable_items bound) _ (variable_begins bound is.0))
+    begins_more begins_pattern (variable_items bound) _ (variable_begins bound is.0)
 pat_level levels below place (Pat-F.Lazy mark part) is =
-    subst (Begins begins_pattern) (sym (fold-roll-Pat (List Item) pat_layer (Pat-F.Lazy mark part))) (of_text begins_pattern Class.ReservedOp (codes "~") mark is.0 refl)
+    of_text begins_pattern Class.ReservedOp (codes "~") mark is.0 refl
 pat_level levels below place (Pat-F.Apply named arguments) is =
-    subst (Begins begins_pattern) (sym (fold-roll-Pat (List Item) pat_layer (Pat-F.Apply named arguments))) (begins_more begins_pattern (constructor_items named) _ (constructor_begins named is.1))
+    begins_more begins_pattern (constructor_items named) _ (constructor_begins named is.1)
 pat_level levels below place (Pat-F.Infix []) is = elim is.1 [ ]
 pat_level levels below place (Pat-F.Infix (operand ∷ [])) is = elim is.1 [ ]
 pat_level levels below place (Pat-F.Infix (operand ∷ (next ∷ rest))) is =
-    subst (Begins begins_pattern) (sym (fold-roll-Pat (List Item) pat_layer (Pat-F.Infix (operand ∷ (next ∷ rest)))))
-    (begins_more begins_pattern (maybe_item operand.minus ++ (pat_items operand.part ++ maybe_operator operand.operator)) _
+    begins_more begins_pattern (maybe_item operand.minus ++ (pat_items operand.part ++ maybe_operator operand.operator)) _
     (subst (λ m. Begins begins_pattern (maybe_item m ++ (pat_items operand.part ++ maybe_operator operand.operator))) (sym is.2.0)
-    (begins_more begins_pattern (pat_items operand.part) (maybe_operator operand.operator) (below PatPlace.Operand operand.part is.2.1))))
+    (begins_more begins_pattern (pat_items operand.part) (maybe_operator operand.operator) (below PatPlace.Operand operand.part is.2.1)))
 pat_level levels below place (Pat-F.Tuple left parts right) is =
-    subst (Begins begins_pattern) (sym (fold-roll-Pat (List Item) pat_layer (Pat-F.Tuple left parts right))) (left_paren begins_pattern refl left is.0)
+    left_paren begins_pattern refl left is.0
 pat_level levels below place (Pat-F.List left parts right) is =
-    subst (Begins begins_pattern) (sym (fold-roll-Pat (List Item) pat_layer (Pat-F.List left parts right))) (left_square begins_pattern refl left is.0)
+    left_square begins_pattern refl left is.0
 pat_level levels below place (Pat-F.Group left part right) is =
-    subst (Begins begins_pattern) (sym (fold-roll-Pat (List Item) pat_layer (Pat-F.Group left part right))) (left_paren begins_pattern refl left is.0)
+    left_paren begins_pattern refl left is.0
 pat_level levels below place (Pat-F.Fields named left fields right) is = elim is [ ]
 
 pub patterns_begin_lem : PatternsBegin
 patterns_begin_lem zero place pat is = elim is [ ]
 patterns_begin_lem (suc levels) place pat is =
-    subst (λ p. Begins begins_pattern (pat_items p)) (roll-out-Pat pat) (pat_level levels (patterns_begin_lem levels) place (out-Pat pat) is)
+    subst (Begins begins_pattern) (sym (yields_join_lem.pat pat)) (pat_level levels (patterns_begin_lem levels) place (out-Pat pat) is)
 
 -- an expression, by its class and text
 opens_by : (class : Class) (text : List ℕ) (item : Item) → IsText class text item → opens_expression class text ≡ true → opens_expression item.lexeme.class item.lexeme.text ≡ true
 opens_by class text item is t = ap₂ opens_expression is.0 is.1 ∙ t
 
-expression_more : (items more : List Item) → BeginsExpression items → BeginsExpression (items ++ more)
+pub expression_more : (items more : List Item) → BeginsExpression items → BeginsExpression (items ++ more)
 expression_more [] more b = elim b [ ]
 expression_more (item ∷ items) more b = b
 
@@ -171,58 +166,56 @@ first_operand None items more m b = expression_more items more b
 first_operand (Some minus) items more m b = inl (of_text begins_operand Class.VarSym (codes "-") minus m refl)
 
 exp_level : (levels : ℕ) → ((free : Bool) (place : ExpPlace) (exp : Exp) → (nodes levels).exp free place exp → BeginsExpression (exp_items exp))
-    → (free : Bool) (place : ExpPlace) (layer : Exp-F Decl Exp Qualifier Alt) → ExpProduction (nodes levels) free place layer → BeginsExpression (exp_items (roll-Exp layer))
+    → (free : Bool) (place : ExpPlace) (layer : Exp-F Decl Exp Qualifier Alt) → ExpProduction (nodes levels) free place layer → BeginsExpression (exp_joined layer)
 exp_level levels below free place (Exp-F.Variable used) is =
-    subst BeginsExpression (sym (fold-roll-Exp (List Item) (List Item) (List Item) (List Item) decl_layer exp_layer qualifier_layer alt_layer (Exp-F.Variable used))) (named_variable_begins used is)
+    named_variable_begins used is
 exp_level levels below free place (Exp-F.Constructor named) is =
-    subst BeginsExpression (sym (fold-roll-Exp (List Item) (List Item) (List Item) (List Item) decl_layer exp_layer qualifier_layer alt_layer (Exp-F.Constructor named))) (used_constructor_begins named is)
+    used_constructor_begins named is
 exp_level levels below free place (Exp-F.Literal literal) is =
-    subst BeginsExpression (sym (fold-roll-Exp (List Item) (List Item) (List Item) (List Item) decl_layer exp_layer qualifier_layer alt_layer (Exp-F.Literal literal))) (inl (operand_literal literal is))
+    inl (operand_literal literal is)
 exp_level levels below free place (Exp-F.Group left part right) is =
-    subst BeginsExpression (sym (fold-roll-Exp (List Item) (List Item) (List Item) (List Item) decl_layer exp_layer qualifier_layer alt_layer (Exp-F.Group left part right))) (inl (left_paren begins_operand refl left is.0))
+    inl (left_paren begins_operand refl left is.0)
 exp_level levels below free place (Exp-F.Tuple left parts right) is =
-    subst BeginsExpression (sym (fold-roll-Exp (List Item) (List Item) (List Item) (List Item) decl_layer exp_layer qualifier_layer alt_layer (Exp-F.Tuple left parts right))) (inl (left_paren begins_operand refl left is.0))
+    inl (left_paren begins_operand refl left is.0)
 exp_level levels below free place (Exp-F.List left parts right) is =
-    subst BeginsExpression (sym (fold-roll-Exp (List Item) (List Item) (List Item) (List Item) decl_layer exp_layer qualifier_layer alt_layer (Exp-F.List left parts right))) (inl (left_square begins_operand refl left is.0))
+    inl (left_square begins_operand refl left is.0)
 exp_level levels below free place (Exp-F.From left first dots right) is =
-    subst BeginsExpression (sym (fold-roll-Exp (List Item) (List Item) (List Item) (List Item) decl_layer exp_layer qualifier_layer alt_layer (Exp-F.From left first dots right))) (inl (left_square begins_operand refl left is.0))
+    inl (left_square begins_operand refl left is.0)
 exp_level levels below free place (Exp-F.FromThen left first comma second dots right) is =
-    subst BeginsExpression (sym (fold-roll-Exp (List Item) (List Item) (List Item) (List Item) decl_layer exp_layer qualifier_layer alt_layer (Exp-F.FromThen left first comma second dots right))) (inl (left_square begins_operand refl left is.0))
+    inl (left_square begins_operand refl left is.0)
 exp_level levels below free place (Exp-F.FromTo left first dots last right) is =
-    subst BeginsExpression (sym (fold-roll-Exp (List Item) (List Item) (List Item) (List Item) decl_layer exp_layer qualifier_layer alt_layer (Exp-F.FromTo left first dots last right))) (inl (left_square begins_operand refl left is.0))
+    inl (left_square begins_operand refl left is.0)
 exp_level levels below free place (Exp-F.FromThenTo left first comma second dots last right) is =
-    subst BeginsExpression (sym (fold-roll-Exp (List Item) (List Item) (List Item) (List Item) decl_layer exp_layer qualifier_layer alt_layer (Exp-F.FromThenTo left first comma second dots last right))) (inl (left_square begins_operand refl left is.0))
+    inl (left_square begins_operand refl left is.0)
 exp_level levels below free place (Exp-F.Comprehension left part bar qualifiers right) is =
-    subst BeginsExpression (sym (fold-roll-Exp (List Item) (List Item) (List Item) (List Item) decl_layer exp_layer qualifier_layer alt_layer (Exp-F.Comprehension left part bar qualifiers right))) (inl (left_square begins_operand refl left is.0))
+    inl (left_square begins_operand refl left is.0)
 exp_level levels below free place (Exp-F.LeftSection left part operator right) is =
-    subst BeginsExpression (sym (fold-roll-Exp (List Item) (List Item) (List Item) (List Item) decl_layer exp_layer qualifier_layer alt_layer (Exp-F.LeftSection left part operator right))) (inl (left_paren begins_operand refl left is.0))
+    inl (left_paren begins_operand refl left is.0)
 exp_level levels below free place (Exp-F.RightSection left operator part right) is =
-    subst BeginsExpression (sym (fold-roll-Exp (List Item) (List Item) (List Item) (List Item) decl_layer exp_layer qualifier_layer alt_layer (Exp-F.RightSection left operator part right))) (inl (left_paren begins_operand refl left is.0))
+    inl (left_paren begins_operand refl left is.0)
 exp_level levels below free place (Exp-F.Lambda mark patterns arrow body) is =
-    subst BeginsExpression (sym (fold-roll-Exp (List Item) (List Item) (List Item) (List Item) decl_layer exp_layer qualifier_layer alt_layer (Exp-F.Lambda mark patterns arrow body))) (inr (opens_by Class.ReservedOp (codes "\\") mark is.1 refl))
+    inr (opens_by Class.ReservedOp (codes "\\") mark is.1 refl)
 exp_level levels below free place (Exp-F.Let word block in_word body) is =
-    subst BeginsExpression (sym (fold-roll-Exp (List Item) (List Item) (List Item) (List Item) decl_layer exp_layer qualifier_layer alt_layer (Exp-F.Let word block in_word body))) (inr (opens_by Class.ReservedId (codes "let") word is.1 refl))
+    inr (opens_by Class.ReservedId (codes "let") word is.1 refl)
 exp_level levels below free place (Exp-F.If word test then_word first else_word second) is =
-    subst BeginsExpression (sym (fold-roll-Exp (List Item) (List Item) (List Item) (List Item) decl_layer exp_layer qualifier_layer alt_layer (Exp-F.If word test then_word first else_word second))) (inr (opens_by Class.ReservedId (codes "if") word is.1 refl))
+    inr (opens_by Class.ReservedId (codes "if") word is.1 refl)
 exp_level levels below free place (Exp-F.Case word part of_word block) is =
-    subst BeginsExpression (sym (fold-roll-Exp (List Item) (List Item) (List Item) (List Item) decl_layer exp_layer qualifier_layer alt_layer (Exp-F.Case word part of_word block))) (inr (opens_by Class.ReservedId (codes "case") word is.1 refl))
+    inr (opens_by Class.ReservedId (codes "case") word is.1 refl)
 exp_level levels below free place (Exp-F.Annotated part colons ty) is =
-    subst BeginsExpression (sym (fold-roll-Exp (List Item) (List Item) (List Item) (List Item) decl_layer exp_layer qualifier_layer alt_layer (Exp-F.Annotated part colons ty))) (expression_more (exp_items part) _ (below true ExpPlace.Annotated part is.2))
+    expression_more (exp_items part) _ (below true ExpPlace.Annotated part is.2)
 exp_level levels below free place (Exp-F.Apply []) is = elim is.1 [ ]
 exp_level levels below free place (Exp-F.Apply (atom ∷ atoms)) is =
-    subst BeginsExpression (sym (fold-roll-Exp (List Item) (List Item) (List Item) (List Item) decl_layer exp_layer qualifier_layer alt_layer (Exp-F.Apply (atom ∷ atoms)))) (expression_more (exp_items atom) _ (below free ExpPlace.Atom atom is.2.0))
+    expression_more (exp_items atom) _ (below free ExpPlace.Atom atom is.2.0)
 exp_level levels below free place (Exp-F.Infix []) is = elim is.1 [ ]
 exp_level levels below free place (Exp-F.Infix (operand ∷ [])) is =
-    subst BeginsExpression (sym (fold-roll-Exp (List Item) (List Item) (List Item) (List Item) decl_layer exp_layer qualifier_layer alt_layer (Exp-F.Infix (operand ∷ []))))
-    (expression_more (maybe_item operand.minus ++ (exp_items operand.part ++ maybe_operator operand.operator)) _
-    (first_operand operand.minus (exp_items operand.part) (maybe_operator operand.operator) is.2.0 (below free (last_operand place) operand.part is.2.1)))
+    expression_more (maybe_item operand.minus ++ (exp_items operand.part ++ maybe_operator operand.operator)) _
+    (first_operand operand.minus (exp_items operand.part) (maybe_operator operand.operator) is.2.0 (below free (last_operand place) operand.part is.2.1))
 exp_level levels below free place (Exp-F.Infix (operand ∷ (next ∷ rest))) is =
-    subst BeginsExpression (sym (fold-roll-Exp (List Item) (List Item) (List Item) (List Item) decl_layer exp_layer qualifier_layer alt_layer (Exp-F.Infix (operand ∷ (next ∷ rest)))))
-    (expression_more (maybe_item operand.minus ++ (exp_items operand.part ++ maybe_operator operand.operator)) _
-    (first_operand operand.minus (exp_items operand.part) (maybe_operator operand.operator) is.2.0 (below free ExpPlace.Operand operand.part is.2.1)))
+    expression_more (maybe_item operand.minus ++ (exp_items operand.part ++ maybe_operator operand.operator)) _
+    (first_operand operand.minus (exp_items operand.part) (maybe_operator operand.operator) is.2.0 (below free ExpPlace.Operand operand.part is.2.1))
 exp_level levels below free place (Exp-F.Fields part left fields right) is = elim is [ ]
 
 pub expressions_begin_lem : ExpressionsBegin
 expressions_begin_lem zero free place exp is = elim is [ ]
 expressions_begin_lem (suc levels) free place exp is =
-    subst (λ e. BeginsExpression (exp_items e)) (roll-out-Exp exp) (exp_level levels (expressions_begin_lem levels) free place (out-Exp exp) is)
+    subst BeginsExpression (sym (yields_join_lem.exp exp)) (exp_level levels (expressions_begin_lem levels) free place (out-Exp exp) is)

@@ -48,7 +48,7 @@ pat_layers (Pat-F.List left parts right) = ap pat_items (pat-rolls-List left par
 pat_layers (Pat-F.Group left part right) = ap pat_items (pat-rolls-Group left part right) ∙ pat_group left part right
 pat_layers (Pat-F.Fields constructor left fields right) = ap pat_items (pat-rolls-Fields constructor left fields right) ∙ pat_fields constructor left fields right
 
-exp_layers : (layer : Exp-F Decl Exp Qualifier Alt) → exp_items (roll-Exp layer) ≡ exp_joined layer
+pub exp_layers : (layer : Exp-F Decl Exp Qualifier Alt) → exp_items (roll-Exp layer) ≡ exp_joined layer
 exp_layers (Exp-F.Variable variable) = fold-roll-Exp (List Item) (List Item) (List Item) (List Item) decl_layer exp_layer qualifier_layer alt_layer (Exp-F.Variable variable)
 exp_layers (Exp-F.Constructor constructor) = fold-roll-Exp (List Item) (List Item) (List Item) (List Item) decl_layer exp_layer qualifier_layer alt_layer (Exp-F.Constructor constructor)
 exp_layers (Exp-F.Literal literal) = fold-roll-Exp (List Item) (List Item) (List Item) (List Item) decl_layer exp_layer qualifier_layer alt_layer (Exp-F.Literal literal)
@@ -71,7 +71,7 @@ exp_layers (Exp-F.If word test then_word first else_word second) = ap exp_items 
 exp_layers (Exp-F.Case word part of_word block) = ap exp_items (rolls-Case word part of_word block) ∙ exp_case word part of_word block
 exp_layers (Exp-F.Fields part left fields right) = ap exp_items (rolls-Fields part left fields right) ∙ exp_fields part left fields right
 
-decl_layers : (layer : Decl-F Decl Exp Qualifier Alt) → decl_items (roll-Decl layer) ≡ decl_joined layer
+pub decl_layers : (layer : Decl-F Decl Exp Qualifier Alt) → decl_items (roll-Decl layer) ≡ decl_joined layer
 decl_layers (Decl-F.Import import) = fold-roll-Decl (List Item) (List Item) (List Item) (List Item) decl_layer exp_layer qualifier_layer alt_layer (Decl-F.Import import)
 decl_layers (Decl-F.Synonym word head equals ty) = fold-roll-Decl (List Item) (List Item) (List Item) (List Item) decl_layer exp_layer qualifier_layer alt_layer (Decl-F.Synonym word head equals ty)
 decl_layers (Decl-F.Data word head equals constructions) = fold-roll-Decl (List Item) (List Item) (List Item) (List Item) decl_layer exp_layer qualifier_layer alt_layer (Decl-F.Data word head equals constructions)
@@ -81,7 +81,7 @@ decl_layers (Decl-F.Fixity word level operators) = fold-roll-Decl (List Item) (L
 decl_layers (Decl-F.Equation left body locals) = ap decl_items (rolls-Equation left body locals) ∙ decl_equation left body locals
 decl_layers (Decl-F.Binding pattern body locals) = ap decl_items (rolls-Binding pattern body locals) ∙ decl_binding pattern body locals
 
-qualifier_layers : (layer : Qualifier-F Decl Exp Qualifier Alt) → qualifier_items (roll-Qualifier layer) ≡ qualifier_joined layer
+pub qualifier_layers : (layer : Qualifier-F Decl Exp Qualifier Alt) → qualifier_items (roll-Qualifier layer) ≡ qualifier_joined layer
 qualifier_layers (Qualifier-F.Generator pattern arrow part) = ap qualifier_items (rolls-Generator pattern arrow part) ∙ qualifier_generator pattern arrow part
 qualifier_layers (Qualifier-F.Locals word block) = ap qualifier_items (rolls-Locals word block) ∙ qualifier_locals word block
 qualifier_layers (Qualifier-F.Test part) = ap qualifier_items (rolls-Test part) ∙ qualifier_test part

@@ -7,6 +7,7 @@ pub mod NoTrees
 pub mod OffsideTest
 pub mod PartFirsts
 pub mod Places
+pub mod Tables
 pub mod TwiceAnnotated
 pub mod Worked
 pub mod walk

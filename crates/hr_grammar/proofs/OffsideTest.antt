@@ -7,6 +7,7 @@ use Rattle.hr_rules.specs.Blocks.{at_margin, ends_block}
 use Rattle.hr_tree.specs.declared.lists.Layout.{Layout}
 use Rattle.hr_grammar.specs.Spans.{Span, Stretch}
 use Rattle.hr_grammar.specs.Offside.{column_of, IsAtMargin, PartsBegin, begins, is_braced, StandsRight, AllStandRight, IsOffside, StandsAs, StandsWell}
+use Rattle.hr_grammar.proofs.Tables.{both_true}
 
 abbrev stands_right : List Span → Span → ℕ → ℕ → Placed → Bool
 stands_right spans block n i next =
@@ -29,11 +30,6 @@ stands_right_is spans block n i next r first braced = by (one_of next.first (is_
     by (inl l) = inl (ltb-true n next.pos.col l)
     by (inr (inl a)) = inr (inl (eqb-true i block.start a))
     by (inr (inr both)) = inr (inr (eqb-true next.pos.col n both.0, both.1))
-
-both_true : (a b : Bool) → (a && b) ≡ true → (a ≡ true) × (b ≡ true)
-both_true true true e = (refl, refl)
-both_true true false e = let no : ⊥ = cc in elim no [ ]
-both_true false b e = let no : ⊥ = cc in elim no [ ]
 
 abbrev all_right : List Span → Span → ℕ → ℕ → ℕ → List Placed → Bool
 all_right spans block n i zero rest = true

@@ -56,7 +56,7 @@ stands text body source ends read grammar well is_text are_ends =
       ended = (λ j. behind_blocks (spans_with (decl.laid_is j)) (items_with (decl.items_is j))) ∙ are_ends;
     }
 
-not_empty : {T : Type 0} (x : T) (xs : List T) → (x ∷ xs) ≢ []
+pub not_empty : {T : Type 0} (x : T) (xs : List T) → (x ∷ xs) ≢ []
 not_empty x xs = λ e. cc
 
 section_grammar : IsModule nesting_limit (defines (codes "a") section_of_lambda)

@@ -6,6 +6,5 @@ pub mod Lists
 pub mod Modules
 pub mod Names
 pub mod Rules
-pub mod Tables
 pub mod TypesAndPatterns
 pub mod Without

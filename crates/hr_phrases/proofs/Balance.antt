@@ -10,7 +10,7 @@ use Rattle.hr_grammar.specs.Phrases.{Everywhere}
 use Rattle.hr_phrases.specs.Balance.{fewer, open_behind, passed_bracket, open_after, Balances, ParenthesesBalance, SquareBracketsBalance, BracesBalance}
 use Rattle.hr_grammar.proofs.walk.Rules.{brackets, is_paired, Joins, InTrees}
 use Rattle.hr_grammar.proofs.walk.Lists.{put}
-use Rattle.hr_grammar.proofs.walk.Tables.{none_of}
+use Rattle.hr_grammar.proofs.Tables.{none_of}
 use Rattle.hr_grammar.proofs.walk.Modules.{trees_keep_lem}
 
 -- as many are open behind the items as before them

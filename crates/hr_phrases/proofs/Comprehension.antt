@@ -21,10 +21,10 @@ use Rattle.hr_grammar.specs.Expressions.{QualifierProduction, IsQualifierOver}
 use Rattle.hr_grammar.specs.Worked.{item}
 use Rattle.hr_grammar.specs.Firsts.{BeginsExpression}
 use Rattle.hr_grammar.specs.Yields.{nodes}
-use Rattle.hr_grammar.proofs.Firsts.{expressions_begin_lem}
+use Rattle.hr_grammar.proofs.Firsts.{expression_more, expressions_begin_lem}
 use Rattle.hr_phrases.proofs.PlainLexemes.{IsPlain, ArePlain, all_left, all_right, clash, misspelled, no_atom, CutAt, CutBehind, cut_first, cut_once}
 use Rattle.hr_phrases.proofs.PlainExpressions.{plain_exp}
-use Rattle.hr_phrases.proofs.PlainPhrases.{head_same, tail_same, no_beginning, expression_more, begun_atom, begun_pattern}
+use Rattle.hr_phrases.proofs.PlainPhrases.{head_same, tail_same, no_beginning, begun_atom, begun_pattern}
 use Rattle.hr_phrases.proofs.GuardedChoice.{the_case, the_x, the_of, the_y, the_bar, the_a, the_arrow, the_one, generator_items, choice_items, choice_ends}
 
 abbrev pub the_open : Item

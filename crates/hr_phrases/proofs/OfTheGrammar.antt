@@ -1,5 +1,5 @@
 -- But for the layout rule, `a = [case x of y | a -> 1 | b <- c]` has a tree.
-use Rattle.std.proofs.Common.{◌≢◌, List, [], ◌∷◌, ◌++◌, None, refl, ap, ◌∙◌, inl}
+use Rattle.std.proofs.Common.{List, [], ◌∷◌, ◌++◌, None, refl, ap, ◌∙◌, inl}
 use lib.Chars.{codes}
 use Rattle.hr_base.specs.declared.lexeme.Class.{Class}
 use Rattle.hr_base.specs.declared.lexeme.Item.{Item}
@@ -14,11 +14,9 @@ use Rattle.hr_tree.specs.Lists.{block_items, body_items}
 use Rattle.hr_tree.specs.Yields.{done, decl_layer, exp_layer, qualifier_layer, alt_layer}
 use Rattle.hr_grammar.specs.Yields.{IsModule, nesting_limit}
 use Rattle.hr_grammar.specs.Worked.{item, variable, number, name, bound, mark, only, defines}
+use Rattle.hr_grammar.proofs.Worked.{not_empty}
 use Rattle.hr_grammar.proofs.Laid.{ReadExp, ReadAlt, of_alt, laid_by, read_bound, read_binding, read_variable, read_literal, read_case, read_generator, read_comprehension}
 use Rattle.hr_phrases.specs.GuardBeforeBar.{guarded_in_comprehension, GuardBeforeBarIsOfTheGrammar}
-
-not_empty : {T : Type 0} (x : T) (xs : List T) → (x ∷ xs) ≢ []
-not_empty x xs = λ e. cc
 
 grammar : IsModule nesting_limit (defines (codes "a") guarded_in_comprehension)
 unfolding out-Exp out-Decl out-Qualifier out-Pat out shown hidden shown-the_row-Decl-Equation-2-4-1 shown-the_row-Exp-2 shown-the_row-Exp-Case-3-3-7 shown-the_row-Exp-Infix-0-3-6

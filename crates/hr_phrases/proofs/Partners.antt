@@ -6,11 +6,10 @@ use lib.Chars.{codes}
 use Rattle.hr_base.specs.declared.lexeme.Class.{Class}
 use Rattle.hr_base.specs.declared.lexeme.Item.{Item}
 use Rattle.hr_grammar.specs.Words.{IsText, IsWord}
-use Rattle.hr_grammar.proofs.PartFirsts.{either_true}
 use Rattle.hr_phrases.specs.Partners.{Has, is_let, is_back_arrow, is_left_square, is_in_or_left_square, is_parting_mark, LetHasIn, BackArrowInBrackets, PatternsHaveNoBar}
 use Rattle.hr_grammar.proofs.walk.Rules.{paired_words, is_paired, is_parting, Joins, InTrees}
 use Rattle.hr_grammar.proofs.walk.Lists.{put}
-use Rattle.hr_grammar.proofs.walk.Tables.{none_of}
+use Rattle.hr_grammar.proofs.Tables.{either_true, none_of}
 use Rattle.hr_grammar.proofs.walk.TypesAndPatterns.{patterns_keep}
 use Rattle.hr_grammar.proofs.walk.Without.{without_in_brackets}
 use Rattle.hr_grammar.proofs.walk.Modules.{trees_keep_lem}

@@ -16,11 +16,10 @@ use Rattle.hr_tree.specs.declared.expressions.Alt.{Alt}
 use Rattle.hr_tree.specs.declared.expressions.Qualifier.{Qualifier}
 use Rattle.hr_tree.specs.declared.expressions.Decl.TheOpen.{Exp-F}
 use Rattle.hr_tree.specs.declared.expressions.Decl.TheFolds.{fold-roll-Exp}
-use Rattle.hr_tree.specs.declared.expressions.Decl.TheViews.{roll-out-Exp, rolls-Group, rolls-Tuple, rolls-List, rolls-From, rolls-FromThen, rolls-FromTo, rolls-FromThenTo, rolls-Comprehension, rolls-LeftSection, rolls-RightSection, rolls-Apply, rolls-Infix, rolls-Annotated, rolls-Lambda, rolls-Let, rolls-If, rolls-Case, rolls-Fields}
-use Rattle.hr_tree.specs.Names.{constructor_items, variable_items, operator_items, maybe_item, maybe_operator}
-use Rattle.hr_tree.specs.Lists.{listed_items, operand_items, field_items, block_items}
-use Rattle.hr_tree.specs.Yields.{ty_items, pat_items, exp_layer, decl_layer, qualifier_layer, alt_layer, exp_items, decl_items, qualifier_items, alt_items}
-use Rattle.hr_tree.proofs.ExpressionYields.{exp_group, exp_tuple, exp_list, exp_from, exp_from_then, exp_from_to, exp_from_then_to, exp_comprehension, exp_left_section, exp_right_section, exp_apply, exp_infix, exp_annotated, exp_lambda, exp_let, exp_if, exp_case, exp_fields}
+use Rattle.hr_tree.specs.declared.expressions.Decl.TheViews.{roll-out-Exp}
+use Rattle.hr_tree.specs.Names.{maybe_item, maybe_operator}
+use Rattle.hr_tree.specs.Lists.{listed_items, operand_items, block_items}
+use Rattle.hr_tree.specs.Yields.{ty_items, exp_items, qualifier_items, alt_items}
 use Rattle.hr_grammar.specs.Words.{IsWord, IsMinus, IsComma, IsBar, IsLeftSquare, IsRightSquare}
 use Rattle.hr_grammar.specs.Spelled.{Maybe}
 use Rattle.hr_grammar.specs.Separated.{AreSeparated, There}
@@ -28,55 +27,10 @@ use Rattle.hr_grammar.specs.Nodes.{ExpPlace}
 use Rattle.hr_grammar.specs.Expressions.{ExpProduction, IsQualifierOver, takes_operand}
 use Rattle.hr_grammar.specs.Spans.{Laid, bare, decl_laid, exp_laid, qualifier_laid, alt_laid}
 use Rattle.hr_grammar.specs.Yields.{nodes}
+use Rattle.hr_grammar.specs.Joins.{exp_joined}
+use Rattle.hr_grammar.proofs.Joins.{exp_layers}
 use Rattle.hr_grammar.proofs.Laid.{of_exp, laid_by}
 use Rattle.hr_phrases.proofs.PlainLexemes.{IsPlain, ArePlain, is_atomic, all_left, all_right, clash, operator_clash}
-
--- the lexemes of a node
-abbrev pub layer_items : Exp-F Decl Exp Qualifier Alt → List Item
-layer_items (Exp-F.Variable used) = variable_items used
-layer_items (Exp-F.Constructor named) = constructor_items named
-layer_items (Exp-F.Literal literal) = literal ∷ []
-layer_items (Exp-F.Group left part right) = left ∷ (exp_items part ++ right ∷ [])
-layer_items (Exp-F.Tuple left parts right) = left ∷ (flat_map (listed_items exp_items) parts ++ right ∷ [])
-layer_items (Exp-F.List left parts right) = left ∷ (flat_map (listed_items exp_items) parts ++ right ∷ [])
-layer_items (Exp-F.From left first dots right) = left ∷ (exp_items first ++ dots ∷ right ∷ [])
-layer_items (Exp-F.FromThen left first comma second dots right) = left ∷ (exp_items first ++ comma ∷ (exp_items second ++ dots ∷ right ∷ []))
-layer_items (Exp-F.FromTo left first dots last right) = left ∷ (exp_items first ++ dots ∷ (exp_items last ++ right ∷ []))
-layer_items (Exp-F.FromThenTo left first comma second dots last right) = left ∷ (exp_items first ++ comma ∷ (exp_items second ++ dots ∷ (exp_items last ++ right ∷ [])))
-layer_items (Exp-F.Comprehension left part bar qualifiers right) = left ∷ (exp_items part ++ bar ∷ (flat_map (listed_items qualifier_items) qualifiers ++ right ∷ []))
-layer_items (Exp-F.LeftSection left part operator right) = left ∷ (exp_items part ++ (operator_items operator ++ right ∷ []))
-layer_items (Exp-F.RightSection left operator part right) = left ∷ (operator_items operator ++ (exp_items part ++ right ∷ []))
-layer_items (Exp-F.Apply atoms) = flat_map exp_items atoms
-layer_items (Exp-F.Infix operands) = flat_map (operand_items exp_items) operands
-layer_items (Exp-F.Annotated part colons ty) = exp_items part ++ colons ∷ ty_items ty
-layer_items (Exp-F.Lambda mark patterns arrow body) = mark ∷ (flat_map pat_items patterns ++ arrow ∷ exp_items body)
-layer_items (Exp-F.Let word block in_word body) = word ∷ (block_items decl_items block ++ in_word ∷ exp_items body)
-layer_items (Exp-F.If word test then_word first else_word second) = word ∷ (exp_items test ++ then_word ∷ (exp_items first ++ else_word ∷ exp_items second))
-layer_items (Exp-F.Case word part of_word block) = word ∷ (exp_items part ++ of_word ∷ block_items alt_items block)
-layer_items (Exp-F.Fields part left fields right) = exp_items part ++ left ∷ (flat_map (listed_items (field_items exp_items)) fields ++ right ∷ [])
-
-rolled : (layer : Exp-F Decl Exp Qualifier Alt) → exp_items (roll-Exp layer) ≡ layer_items layer
-rolled (Exp-F.Variable used) = fold-roll-Exp (List Item) (List Item) (List Item) (List Item) decl_layer exp_layer qualifier_layer alt_layer (Exp-F.Variable used)
-rolled (Exp-F.Constructor named) = fold-roll-Exp (List Item) (List Item) (List Item) (List Item) decl_layer exp_layer qualifier_layer alt_layer (Exp-F.Constructor named)
-rolled (Exp-F.Literal literal) = fold-roll-Exp (List Item) (List Item) (List Item) (List Item) decl_layer exp_layer qualifier_layer alt_layer (Exp-F.Literal literal)
-rolled (Exp-F.Group left part right) = ap exp_items (rolls-Group left part right) ∙ exp_group left part right
-rolled (Exp-F.Tuple left parts right) = ap exp_items (rolls-Tuple left parts right) ∙ exp_tuple left parts right
-rolled (Exp-F.List left parts right) = ap exp_items (rolls-List left parts right) ∙ exp_list left parts right
-rolled (Exp-F.From left first dots right) = ap exp_items (rolls-From left first dots right) ∙ exp_from left first dots right
-rolled (Exp-F.FromThen left first comma second dots right) = ap exp_items (rolls-FromThen left first comma second dots right) ∙ exp_from_then left first comma second dots right
-rolled (Exp-F.FromTo left first dots last right) = ap exp_items (rolls-FromTo left first dots last right) ∙ exp_from_to left first dots last right
-rolled (Exp-F.FromThenTo left first comma second dots last right) = ap exp_items (rolls-FromThenTo left first comma second dots last right) ∙ exp_from_then_to left first comma second dots last right
-rolled (Exp-F.Comprehension left part bar qualifiers right) = ap exp_items (rolls-Comprehension left part bar qualifiers right) ∙ exp_comprehension left part bar qualifiers right
-rolled (Exp-F.LeftSection left part operator right) = ap exp_items (rolls-LeftSection left part operator right) ∙ exp_left_section left part operator right
-rolled (Exp-F.RightSection left operator part right) = ap exp_items (rolls-RightSection left operator part right) ∙ exp_right_section left operator part right
-rolled (Exp-F.Apply atoms) = ap exp_items (rolls-Apply atoms) ∙ exp_apply atoms
-rolled (Exp-F.Infix operands) = ap exp_items (rolls-Infix operands) ∙ exp_infix operands
-rolled (Exp-F.Annotated part colons ty) = ap exp_items (rolls-Annotated part colons ty) ∙ exp_annotated part colons ty
-rolled (Exp-F.Lambda mark patterns arrow body) = ap exp_items (rolls-Lambda mark patterns arrow body) ∙ exp_lambda mark patterns arrow body
-rolled (Exp-F.Let word block in_word body) = ap exp_items (rolls-Let word block in_word body) ∙ exp_let word block in_word body
-rolled (Exp-F.If word test then_word first else_word second) = ap exp_items (rolls-If word test then_word first else_word second) ∙ exp_if word test then_word first else_word second
-rolled (Exp-F.Case word part of_word block) = ap exp_items (rolls-Case word part of_word block) ∙ exp_case word part of_word block
-rolled (Exp-F.Fields part left fields right) = ap exp_items (rolls-Fields part left fields right) ∙ exp_fields part left fields right
 
 -- what follows of a plain expression, by what it can be: one name or literal; `[]`; a list of one part; a
 -- comprehension of one qualifier; an application; a `case`
@@ -111,31 +65,31 @@ minus_clash : {C : Type 0} (minus : Option Item) (more : List Item) → IsSome m
 minus_clash None more some is p = let no : ⊥ = cc in elim no [ ]
 minus_clash (Some item) more some is p = clash Class.VarSym (codes "-") item is refl p.0
 
-by_layer : {C : Type 0} (levels : ℕ) (free : Bool) (place : ExpPlace) (layer : Exp-F Decl Exp Qualifier Alt) → ExpProduction (nodes levels) free place layer → ArePlain (layer_items layer) → Outcomes C levels free place (roll-Exp layer) → C
+by_layer : {C : Type 0} (levels : ℕ) (free : Bool) (place : ExpPlace) (layer : Exp-F Decl Exp Qualifier Alt) → ExpProduction (nodes levels) free place layer → ArePlain (exp_joined layer) → Outcomes C levels free place (roll-Exp layer) → C
 by_layer levels free place (Exp-F.Variable (Named.Name name)) (inl is) p o =
-    o.atom name (ap is_atomic is) (rolled (Exp-F.Variable (Named.Name name))) (fold-roll-Exp Laid Laid Laid Laid decl_laid exp_laid qualifier_laid alt_laid (Exp-F.Variable (Named.Name name)))
+    o.atom name (ap is_atomic is) (exp_layers (Exp-F.Variable (Named.Name name))) (fold-roll-Exp Laid Laid Laid Laid decl_laid exp_laid qualifier_laid alt_laid (Exp-F.Variable (Named.Name name)))
 by_layer levels free place (Exp-F.Variable (Named.Name name)) (inr is) p o =
-    o.atom name (ap is_atomic is) (rolled (Exp-F.Variable (Named.Name name))) (fold-roll-Exp Laid Laid Laid Laid decl_laid exp_laid qualifier_laid alt_laid (Exp-F.Variable (Named.Name name)))
+    o.atom name (ap is_atomic is) (exp_layers (Exp-F.Variable (Named.Name name))) (fold-roll-Exp Laid Laid Laid Laid decl_laid exp_laid qualifier_laid alt_laid (Exp-F.Variable (Named.Name name)))
 by_layer levels free place (Exp-F.Variable (Named.Symbol left symbol right)) is p o = clash Class.Special (codes "(") left is.0 refl p.0
 by_layer levels free place (Exp-F.Constructor (Built.Name name)) (inl is) p o =
-    o.atom name (ap is_atomic is) (rolled (Exp-F.Constructor (Built.Name name))) (fold-roll-Exp Laid Laid Laid Laid decl_laid exp_laid qualifier_laid alt_laid (Exp-F.Constructor (Built.Name name)))
+    o.atom name (ap is_atomic is) (exp_layers (Exp-F.Constructor (Built.Name name))) (fold-roll-Exp Laid Laid Laid Laid decl_laid exp_laid qualifier_laid alt_laid (Exp-F.Constructor (Built.Name name)))
 by_layer levels free place (Exp-F.Constructor (Built.Name name)) (inr is) p o =
-    o.atom name (ap is_atomic is) (rolled (Exp-F.Constructor (Built.Name name))) (fold-roll-Exp Laid Laid Laid Laid decl_laid exp_laid qualifier_laid alt_laid (Exp-F.Constructor (Built.Name name)))
+    o.atom name (ap is_atomic is) (exp_layers (Exp-F.Constructor (Built.Name name))) (fold-roll-Exp Laid Laid Laid Laid decl_laid exp_laid qualifier_laid alt_laid (Exp-F.Constructor (Built.Name name)))
 by_layer levels free place (Exp-F.Constructor (Built.Symbol left symbol right)) is p o = clash Class.Special (codes "(") left is.0 refl p.0
 by_layer levels free place (Exp-F.Constructor (Built.Unit left right)) is p o = clash Class.Special (codes "(") left is.0 refl p.0
-by_layer levels free place (Exp-F.Constructor (Built.EmptyList left right)) is p o = o.empty left right is.0 is.1 (rolled (Exp-F.Constructor (Built.EmptyList left right)))
+by_layer levels free place (Exp-F.Constructor (Built.EmptyList left right)) is p o = o.empty left right is.0 is.1 (exp_layers (Exp-F.Constructor (Built.EmptyList left right)))
 by_layer levels free place (Exp-F.Constructor (Built.Tuple left commas right)) is p o = clash Class.Special (codes "(") left is.0 refl p.0
 by_layer levels free place (Exp-F.Literal literal) (inl is) p o =
-    o.atom literal (ap is_atomic is) (rolled (Exp-F.Literal literal)) (fold-roll-Exp Laid Laid Laid Laid decl_laid exp_laid qualifier_laid alt_laid (Exp-F.Literal literal))
+    o.atom literal (ap is_atomic is) (exp_layers (Exp-F.Literal literal)) (fold-roll-Exp Laid Laid Laid Laid decl_laid exp_laid qualifier_laid alt_laid (Exp-F.Literal literal))
 by_layer levels free place (Exp-F.Literal literal) (inr (inl is)) p o =
-    o.atom literal (ap is_atomic is) (rolled (Exp-F.Literal literal)) (fold-roll-Exp Laid Laid Laid Laid decl_laid exp_laid qualifier_laid alt_laid (Exp-F.Literal literal))
+    o.atom literal (ap is_atomic is) (exp_layers (Exp-F.Literal literal)) (fold-roll-Exp Laid Laid Laid Laid decl_laid exp_laid qualifier_laid alt_laid (Exp-F.Literal literal))
 by_layer levels free place (Exp-F.Literal literal) (inr (inr is)) p o =
-    o.atom literal (ap is_atomic is) (rolled (Exp-F.Literal literal)) (fold-roll-Exp Laid Laid Laid Laid decl_laid exp_laid qualifier_laid alt_laid (Exp-F.Literal literal))
+    o.atom literal (ap is_atomic is) (exp_layers (Exp-F.Literal literal)) (fold-roll-Exp Laid Laid Laid Laid decl_laid exp_laid qualifier_laid alt_laid (Exp-F.Literal literal))
 by_layer levels free place (Exp-F.Group left part right) is p o = clash Class.Special (codes "(") left is.0 refl p.0
 by_layer levels free place (Exp-F.Tuple left parts right) is p o = clash Class.Special (codes "(") left is.0 refl p.0
 by_layer levels free place (Exp-F.List left parts right) is p o =
     one_part exp_items ((nodes levels).exp true ExpPlace.Whole) parts (right ∷ []) is.1 is.2 p.1
-    (λ part part_is same. o.list left part right is.0 part_is is.3 (rolled (Exp-F.List left parts right) ∙ ap (λ l. left ∷ (l ++ right ∷ [])) same))
+    (λ part part_is same. o.list left part right is.0 part_is is.3 (exp_layers (Exp-F.List left parts right) ∙ ap (λ l. left ∷ (l ++ right ∷ [])) same))
 by_layer levels free place (Exp-F.From left first dots right) is p o = clash Class.ReservedOp (codes "..") dots is.2 refl (all_right IsPlain (exp_items first) (dots ∷ right ∷ []) p.1).0
 by_layer levels free place (Exp-F.FromThen left first comma second dots right) is p o =
     clash Class.Special (codes ",") comma is.2 refl (all_right IsPlain (exp_items first) (comma ∷ (exp_items second ++ dots ∷ right ∷ [])) p.1).0
@@ -145,13 +99,13 @@ by_layer levels free place (Exp-F.FromThenTo left first comma second dots last r
 by_layer levels free place (Exp-F.Comprehension left part bar qualifiers right) is p o =
     one_part qualifier_items (IsQualifierOver (nodes levels)) qualifiers (right ∷ []) is.3 is.4 (all_right IsPlain (exp_items part) (bar ∷ (flat_map (listed_items qualifier_items) qualifiers ++ right ∷ [])) p.1).1
     (λ qualifier qualifier_is same. o.comprehension left part bar qualifiers qualifier right refl is.0 is.1 is.2 qualifier_is is.5
-    (rolled (Exp-F.Comprehension left part bar qualifiers right) ∙ ap (λ l. left ∷ (exp_items part ++ bar ∷ (l ++ right ∷ []))) same))
+    (exp_layers (Exp-F.Comprehension left part bar qualifiers right) ∙ ap (λ l. left ∷ (exp_items part ++ bar ∷ (l ++ right ∷ []))) same))
 by_layer levels free place (Exp-F.LeftSection left part operator right) is p o = clash Class.Special (codes "(") left is.0 refl p.0
 by_layer levels free place (Exp-F.RightSection left operator part right) is p o = clash Class.Special (codes "(") left is.0 refl p.0
 by_layer levels free place (Exp-F.Apply []) is p o = elim is.1 [ ]
 by_layer levels free place (Exp-F.Apply (first ∷ [])) is p o = elim is.1 [ ]
-by_layer levels free place (Exp-F.Apply (first ∷ (second ∷ rest))) is p o = o.application is.0 first second rest is.2.0 is.2.1.0 (rolled (Exp-F.Apply (first ∷ (second ∷ rest))))
-by_layer levels free place (Exp-F.Case word part of_word block) is p o = o.choice is.0 word part of_word block refl is.1 is.2 is.3 is.4 (rolled (Exp-F.Case word part of_word block))
+by_layer levels free place (Exp-F.Apply (first ∷ (second ∷ rest))) is p o = o.application is.0 first second rest is.2.0 is.2.1.0 (exp_layers (Exp-F.Apply (first ∷ (second ∷ rest))))
+by_layer levels free place (Exp-F.Case word part of_word block) is p o = o.choice is.0 word part of_word block refl is.1 is.2 is.3 is.4 (exp_layers (Exp-F.Case word part of_word block))
 by_layer levels free place (Exp-F.Lambda mark patterns arrow body) is p o = clash Class.ReservedOp (codes "\\") mark is.1 refl p.0
 by_layer levels free place (Exp-F.Let word block in_word body) is p o = clash Class.ReservedId (codes "let") word is.1 refl p.0
 by_layer levels free place (Exp-F.If word test then_word first else_word second) is p o = clash Class.ReservedId (codes "if") word is.1 refl p.0
@@ -168,7 +122,7 @@ by_layer levels free place (Exp-F.Fields part left fields right) is p o = elim i
 
 pub plain_level : {C : Type 0} (levels : ℕ) (free : Bool) (place : ExpPlace) (exp : Exp) → (nodes (suc levels)).exp free place exp → ArePlain (exp_items exp) → Outcomes C levels free place exp → C
 plain_level {C} levels free place exp is p o =
-    by_layer levels free place (out-Exp exp) is (subst ArePlain (ap exp_items (sym (roll-out-Exp exp)) ∙ rolled (out-Exp exp)) p) (subst (Outcomes C levels free place) (sym (roll-out-Exp exp)) o)
+    by_layer levels free place (out-Exp exp) is (subst ArePlain (ap exp_items (sym (roll-out-Exp exp)) ∙ exp_layers (out-Exp exp)) p) (subst (Outcomes C levels free place) (sym (roll-out-Exp exp)) o)
 
 pub plain_exp : {C : Type 0} (levels : ℕ) (free : Bool) (place : ExpPlace) (exp : Exp) → (nodes levels).exp free place exp → ArePlain (exp_items exp) → ((below : ℕ) → Outcomes C below free place exp) → C
 plain_exp zero free place exp is p o = elim is [ ]

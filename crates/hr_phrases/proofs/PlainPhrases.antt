@@ -28,7 +28,7 @@ use Rattle.hr_grammar.specs.Patterns.{PatProduction}
 use Rattle.hr_grammar.specs.Spans.{bare}
 use Rattle.hr_grammar.specs.Firsts.{Begins, begins_operand, opens_expression, BeginsExpression}
 use Rattle.hr_grammar.specs.Yields.{nodes}
-use Rattle.hr_grammar.proofs.Firsts.{expressions_begin_lem}
+use Rattle.hr_grammar.proofs.Firsts.{expression_more, expressions_begin_lem}
 use Rattle.hr_grammar.proofs.Laid.{of_exp, laid_by}
 use Rattle.hr_phrases.proofs.PlainLexemes.{IsPlain, ArePlain, is_atomic, all_left, all_right, clash, constructor_operator_clash, no_atom}
 use Rattle.hr_phrases.proofs.PlainExpressions.{plain_level, plain_exp}
@@ -48,10 +48,6 @@ no_beginning item rest f g (inr b) = true≢false (sym b ∙ g)
 pub begins_not : (test : Role → Bool) (item : Item) (rest : List Item) → test (role_by item.lexeme.class item.lexeme.text) ≡ false → Begins test (item ∷ rest) → ⊥
 unfolding role_of
 begins_not test item rest f b = true≢false (sym b ∙ f)
-
-pub expression_more : (items more : List Item) → BeginsExpression items → BeginsExpression (items ++ more)
-expression_more [] more b = elim b [ ]
-expression_more (item ∷ items) more b = b
 
 -- the expression is one lexeme
 pub record IsAtom (exp : Exp) (item : Item) : Type 0 where

@@ -24,7 +24,7 @@ use Rattle.hr_grammar.specs.Yields.{nodes}
 use Rattle.hr_grammar.specs.LeftOut.{left_out}
 use Rattle.hr_grammar.proofs.walk.Rules.{is_parting, InPatterns, InTypes}
 use Rattle.hr_grammar.proofs.walk.Lists.{put, all_items, all_of, separated}
-use Rattle.hr_grammar.proofs.walk.Tables.{one_of}
+use Rattle.hr_grammar.proofs.Tables.{one_of}
 use Rattle.hr_grammar.proofs.walk.Names.{patterns_in, of_class, of_text, own_constructor, own_operator, variable}
 use Rattle.hr_grammar.proofs.walk.TypesAndPatterns.{types_keep, patterns_keep}
 
@@ -103,7 +103,7 @@ left_side_keeps {P} h levels left is =
 -- a word of a fixity
 fixity_word : (test : Class → List ℕ → Bool) (word : Item) → AllByRecursion (λ text. test Class.ReservedId text ≡ false) fixity_words
     → IsOf Class.ReservedId word → is_one_of fixity_words word.lexeme.text ≡ true → test word.lexeme.class word.lexeme.text ≡ false
-fixity_word test word all is one = ap (λ c. test c word.lexeme.text) is ∙ one_of (test Class.ReservedId) fixity_words word.lexeme.text all one
+fixity_word test word all is one = ap (λ c. test c word.lexeme.text) is ∙ one_of (test Class.ReservedId) false fixity_words word.lexeme.text all one
 
 pub fixity_keeps : {P : List Item → Type 0} → InPatterns P → (word : Item) → IsOf Class.ReservedId word → is_one_of fixity_words word.lexeme.text ≡ true → P (word ∷ [])
 fixity_keeps h word is one = h.plain word (fixity_word is_parting word (refl, (refl, (refl, tt))) is one) (fixity_word left_out word (refl, (refl, (refl, tt))) is one)

@@ -11,7 +11,7 @@ use Rattle.hr_grammar.specs.Words.{IsOf, IsText, IsComma, IsMinus, IsLiteral}
 use Rattle.hr_grammar.specs.Spelled.{IsColon, IsVariable, IsNamedVariable, IsConstructor, IsTypeConstructor, IsOwnConstructor, IsOwnOperator, IsConstructorOperator, IsVariableOperator, IsOperator}
 use Rattle.hr_grammar.specs.LeftOut.{left_out}
 use Rattle.hr_grammar.proofs.walk.Rules.{paired_words, block_words, marks_between, is_paired, is_by_block, is_parting, InBrackets, InPatterns, InTypes, InTrees}
-use Rattle.hr_grammar.proofs.walk.Tables.{left_false, right_false, none_of, none_among}
+use Rattle.hr_grammar.proofs.Tables.{left_false, right_false, none_of, none_among}
 use Rattle.hr_grammar.proofs.walk.Lists.{put, all_items}
 
 -- of one test with a weaker one
