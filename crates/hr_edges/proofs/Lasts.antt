@@ -151,20 +151,15 @@ patterns_close = record { paren = refl; square = refl; variables = λ text. refl
 
 ty_level : (levels : ℕ) → ((place : TyPlace) (ty : Ty) → (nodes levels).ty place ty → Ends ends_type (ty_items ty))
     → (place : TyPlace) (layer : Ty-F Ty) → TyProduction (nodes levels) place layer → Ends ends_type (ty_joined layer)
-ty_level levels below place (Ty-F.Variable name) is =
-    class_ends ends_type Class.VarId name is refl
-ty_level levels below place (Ty-F.Constructor named) is =
-    type_constructor_ends ends_type types_close named is
+ty_level levels below place (Ty-F.Variable name) is = class_ends ends_type Class.VarId name is refl
+ty_level levels below place (Ty-F.Constructor named) is = type_constructor_ends ends_type types_close named is
 ty_level levels below place (Ty-F.Apply named arguments) is =
     ends_after ends_type (constructor_items named) (flat_map ty_items arguments) (all_end ends_type ty_items ((nodes levels).ty TyPlace.Atomic) (below TyPlace.Atomic) arguments is.2 is.3)
 ty_level levels below place (Ty-F.Function from arrow to) is =
     ends_after ends_type (ty_items from) (arrow ∷ ty_items to) (ends_behind ends_type arrow (ty_items to) (below TyPlace.Whole to is.3))
-ty_level levels below place (Ty-F.Tuple left parts right) is =
-    right_paren ends_type types_close (left ∷ flat_map (listed_items ty_items) parts) right is.3
-ty_level levels below place (Ty-F.List left part right) is =
-    right_square ends_type types_close (left ∷ ty_items part) right is.2
-ty_level levels below place (Ty-F.Group left part right) is =
-    right_paren ends_type types_close (left ∷ ty_items part) right is.2
+ty_level levels below place (Ty-F.Tuple left parts right) is = right_paren ends_type types_close (left ∷ flat_map (listed_items ty_items) parts) right is.3
+ty_level levels below place (Ty-F.List left part right) is = right_square ends_type types_close (left ∷ ty_items part) right is.2
+ty_level levels below place (Ty-F.Group left part right) is = right_paren ends_type types_close (left ∷ ty_items part) right is.2
 
 pub types_end_lem : TypesEnd
 types_end_lem zero place ty is = elim is [ ]
@@ -185,30 +180,20 @@ pat_operands levels below (operand ∷ (next ∷ rest)) is =
 
 pat_level : (levels : ℕ) → ((place : PatPlace) (pat : Pat) → (nodes levels).pat place pat → Ends ends_pattern (pat_items pat))
     → (place : PatPlace) (layer : Pat-F Pat) → PatProduction (nodes levels) place layer → Ends ends_pattern (pat_joined layer)
-pat_level levels below place (Pat-F.Variable bound) is =
-    variable_ends ends_pattern patterns_close bound is
-pat_level levels below place (Pat-F.Wildcard word) is =
-    text_ends ends_pattern Class.ReservedId (codes "_") word is refl
-pat_level levels below place (Pat-F.Literal item) is =
-    literal_ends ends_pattern (λ text. (refl, refl, refl)) item is
-pat_level levels below place (Pat-F.Negative minus number) is =
-    class_ends ends_pattern Class.Integer number is.2 refl
-pat_level levels below place (Pat-F.Constructor named) is =
-    constructor_ends ends_pattern patterns_close named is
+pat_level levels below place (Pat-F.Variable bound) is = variable_ends ends_pattern patterns_close bound is
+pat_level levels below place (Pat-F.Wildcard word) is = text_ends ends_pattern Class.ReservedId (codes "_") word is refl
+pat_level levels below place (Pat-F.Literal item) is = literal_ends ends_pattern (λ text. (refl, refl, refl)) item is
+pat_level levels below place (Pat-F.Negative minus number) is = class_ends ends_pattern Class.Integer number is.2 refl
+pat_level levels below place (Pat-F.Constructor named) is = constructor_ends ends_pattern patterns_close named is
 pat_level levels below place (Pat-F.As bound mark part) is =
     ends_after ends_pattern (variable_items bound) (mark ∷ pat_items part) (ends_behind ends_pattern mark (pat_items part) (below PatPlace.Atomic part is.2))
-pat_level levels below place (Pat-F.Lazy mark part) is =
-    ends_behind ends_pattern mark (pat_items part) (below PatPlace.Atomic part is.1)
+pat_level levels below place (Pat-F.Lazy mark part) is = ends_behind ends_pattern mark (pat_items part) (below PatPlace.Atomic part is.1)
 pat_level levels below place (Pat-F.Apply named arguments) is =
     ends_after ends_pattern (constructor_items named) (flat_map pat_items arguments) (all_end ends_pattern pat_items ((nodes levels).pat PatPlace.Atomic) (below PatPlace.Atomic) arguments is.2 is.3)
-pat_level levels below place (Pat-F.Infix list) is =
-    pat_operands levels below list is.2
-pat_level levels below place (Pat-F.Tuple left parts right) is =
-    right_paren ends_pattern patterns_close (left ∷ flat_map (listed_items pat_items) parts) right is.3
-pat_level levels below place (Pat-F.List left parts right) is =
-    right_square ends_pattern patterns_close (left ∷ flat_map (listed_items pat_items) parts) right is.3
-pat_level levels below place (Pat-F.Group left part right) is =
-    right_paren ends_pattern patterns_close (left ∷ pat_items part) right is.2
+pat_level levels below place (Pat-F.Infix list) is = pat_operands levels below list is.2
+pat_level levels below place (Pat-F.Tuple left parts right) is = right_paren ends_pattern patterns_close (left ∷ flat_map (listed_items pat_items) parts) right is.3
+pat_level levels below place (Pat-F.List left parts right) is = right_square ends_pattern patterns_close (left ∷ flat_map (listed_items pat_items) parts) right is.3
+pat_level levels below place (Pat-F.Group left part right) is = right_paren ends_pattern patterns_close (left ∷ pat_items part) right is.2
 pat_level levels below place (Pat-F.Fields named left fields right) is = elim is [ ]
 
 pub patterns_end_lem : PatternsEnd

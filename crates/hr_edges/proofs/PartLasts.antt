@@ -105,12 +105,9 @@ operands levels below free last (operand ∷ (next ∷ rest)) is =
     ends_after ends_part (operand_items exp_items operand) (flat_map (operand_items exp_items) (next ∷ rest)) (operands levels below free last (next ∷ rest) is.3)
 
 exp_level : (levels : ℕ) → Below levels → (free : Bool) (place : ExpPlace) (layer : Exp-F Decl Exp Qualifier Alt) → ExpProduction (nodes levels) free place layer → Ends (ends_expression place) (exp_joined layer)
-exp_level levels below free place (Exp-F.Variable named) is =
-    atom_at place (variable_items named) (named_variable_ends named is)
-exp_level levels below free place (Exp-F.Constructor named) is =
-    atom_at place (constructor_items named) (constructor_ends ends_atom atoms_close named is)
-exp_level levels below free place (Exp-F.Literal item) is =
-    atom_at place (item ∷ []) (literal_ends ends_atom (λ text. (refl, refl, refl)) item is)
+exp_level levels below free place (Exp-F.Variable named) is = atom_at place (variable_items named) (named_variable_ends named is)
+exp_level levels below free place (Exp-F.Constructor named) is = atom_at place (constructor_items named) (constructor_ends ends_atom atoms_close named is)
+exp_level levels below free place (Exp-F.Literal item) is = atom_at place (item ∷ []) (literal_ends ends_atom (λ text. (refl, refl, refl)) item is)
 exp_level levels below free place (Exp-F.Group left part right) is =
     atom_at place ((left ∷ exp_items part) ++ right ∷ []) (right_paren ends_atom atoms_close (left ∷ exp_items part) right is.2)
 exp_level levels below free place (Exp-F.Tuple left parts right) is =

@@ -78,20 +78,13 @@ literal_begins item (inr (inr is)) = of_class begins_pattern Class.Str item is r
 -- one level, where types on the level below begin so
 ty_level : (levels : ℕ) → ((place : TyPlace) (ty : Ty) → (nodes levels).ty place ty → Begins begins_type (ty_items ty))
     → (place : TyPlace) (layer : Ty-F Ty) → TyProduction (nodes levels) place layer → Begins begins_type (ty_joined layer)
-ty_level levels below place (Ty-F.Variable name) is =
-    of_class begins_type Class.VarId name is refl
-ty_level levels below place (Ty-F.Constructor named) is =
-    type_constructor_begins named is
-ty_level levels below place (Ty-F.Apply named arguments) is =
-    begins_more begins_type (constructor_items named) _ (type_constructor_begins named is.1)
-ty_level levels below place (Ty-F.Function from arrow to) is =
-    begins_more begins_type (ty_items from) _ (below TyPlace.Applied from is.1)
-ty_level levels below place (Ty-F.Tuple left parts right) is =
-    left_paren begins_type refl left is.0
-ty_level levels below place (Ty-F.List left part right) is =
-    left_square begins_type refl left is.0
-ty_level levels below place (Ty-F.Group left part right) is =
-    left_paren begins_type refl left is.0
+ty_level levels below place (Ty-F.Variable name) is = of_class begins_type Class.VarId name is refl
+ty_level levels below place (Ty-F.Constructor named) is = type_constructor_begins named is
+ty_level levels below place (Ty-F.Apply named arguments) is = begins_more begins_type (constructor_items named) _ (type_constructor_begins named is.1)
+ty_level levels below place (Ty-F.Function from arrow to) is = begins_more begins_type (ty_items from) _ (below TyPlace.Applied from is.1)
+ty_level levels below place (Ty-F.Tuple left parts right) is = left_paren begins_type refl left is.0
+ty_level levels below place (Ty-F.List left part right) is = left_square begins_type refl left is.0
+ty_level levels below place (Ty-F.Group left part right) is = left_paren begins_type refl left is.0
 
 pub types_begin_lem : TypesBegin
 types_begin_lem zero place ty is = elim is [ ]
@@ -100,34 +93,23 @@ types_begin_lem (suc levels) place ty is =
 
 pat_level : (levels : ℕ) → ((place : PatPlace) (pat : Pat) → (nodes levels).pat place pat → Begins begins_pattern (pat_items pat))
     → (place : PatPlace) (layer : Pat-F Pat) → PatProduction (nodes levels) place layer → Begins begins_pattern (pat_joined layer)
-pat_level levels below place (Pat-F.Variable bound) is =
-    variable_begins bound is
-pat_level levels below place (Pat-F.Wildcard word) is =
-    of_text begins_pattern Class.ReservedId (codes "_") word is refl
-pat_level levels below place (Pat-F.Literal literal) is =
-    literal_begins literal is
-pat_level levels below place (Pat-F.Negative minus number) is =
-    of_text begins_pattern Class.VarSym (codes "-") minus is.1 refl
-pat_level levels below place (Pat-F.Constructor named) is =
-    constructor_begins named is
-pat_level levels below place (Pat-F.As bound mark part) is =
-    begins_more begins_pattern (variable_items bound) _ (variable_begins bound is.0)
-pat_level levels below place (Pat-F.Lazy mark part) is =
-    of_text begins_pattern Class.ReservedOp (codes "~") mark is.0 refl
-pat_level levels below place (Pat-F.Apply named arguments) is =
-    begins_more begins_pattern (constructor_items named) _ (constructor_begins named is.1)
+pat_level levels below place (Pat-F.Variable bound) is = variable_begins bound is
+pat_level levels below place (Pat-F.Wildcard word) is = of_text begins_pattern Class.ReservedId (codes "_") word is refl
+pat_level levels below place (Pat-F.Literal literal) is = literal_begins literal is
+pat_level levels below place (Pat-F.Negative minus number) is = of_text begins_pattern Class.VarSym (codes "-") minus is.1 refl
+pat_level levels below place (Pat-F.Constructor named) is = constructor_begins named is
+pat_level levels below place (Pat-F.As bound mark part) is = begins_more begins_pattern (variable_items bound) _ (variable_begins bound is.0)
+pat_level levels below place (Pat-F.Lazy mark part) is = of_text begins_pattern Class.ReservedOp (codes "~") mark is.0 refl
+pat_level levels below place (Pat-F.Apply named arguments) is = begins_more begins_pattern (constructor_items named) _ (constructor_begins named is.1)
 pat_level levels below place (Pat-F.Infix []) is = elim is.1 [ ]
 pat_level levels below place (Pat-F.Infix (operand ∷ [])) is = elim is.1 [ ]
 pat_level levels below place (Pat-F.Infix (operand ∷ (next ∷ rest))) is =
     begins_more begins_pattern (maybe_item operand.minus ++ (pat_items operand.part ++ maybe_operator operand.operator)) _
     (subst (λ m. Begins begins_pattern (maybe_item m ++ (pat_items operand.part ++ maybe_operator operand.operator))) (sym is.2.0)
     (begins_more begins_pattern (pat_items operand.part) (maybe_operator operand.operator) (below PatPlace.Operand operand.part is.2.1)))
-pat_level levels below place (Pat-F.Tuple left parts right) is =
-    left_paren begins_pattern refl left is.0
-pat_level levels below place (Pat-F.List left parts right) is =
-    left_square begins_pattern refl left is.0
-pat_level levels below place (Pat-F.Group left part right) is =
-    left_paren begins_pattern refl left is.0
+pat_level levels below place (Pat-F.Tuple left parts right) is = left_paren begins_pattern refl left is.0
+pat_level levels below place (Pat-F.List left parts right) is = left_square begins_pattern refl left is.0
+pat_level levels below place (Pat-F.Group left part right) is = left_paren begins_pattern refl left is.0
 pat_level levels below place (Pat-F.Fields named left fields right) is = elim is [ ]
 
 pub patterns_begin_lem : PatternsBegin
@@ -167,45 +149,26 @@ first_operand (Some minus) items more m b = inl (of_text begins_operand Class.Va
 
 exp_level : (levels : ℕ) → ((free : Bool) (place : ExpPlace) (exp : Exp) → (nodes levels).exp free place exp → BeginsExpression (exp_items exp))
     → (free : Bool) (place : ExpPlace) (layer : Exp-F Decl Exp Qualifier Alt) → ExpProduction (nodes levels) free place layer → BeginsExpression (exp_joined layer)
-exp_level levels below free place (Exp-F.Variable used) is =
-    named_variable_begins used is
-exp_level levels below free place (Exp-F.Constructor named) is =
-    used_constructor_begins named is
-exp_level levels below free place (Exp-F.Literal literal) is =
-    inl (operand_literal literal is)
-exp_level levels below free place (Exp-F.Group left part right) is =
-    inl (left_paren begins_operand refl left is.0)
-exp_level levels below free place (Exp-F.Tuple left parts right) is =
-    inl (left_paren begins_operand refl left is.0)
-exp_level levels below free place (Exp-F.List left parts right) is =
-    inl (left_square begins_operand refl left is.0)
-exp_level levels below free place (Exp-F.From left first dots right) is =
-    inl (left_square begins_operand refl left is.0)
-exp_level levels below free place (Exp-F.FromThen left first comma second dots right) is =
-    inl (left_square begins_operand refl left is.0)
-exp_level levels below free place (Exp-F.FromTo left first dots last right) is =
-    inl (left_square begins_operand refl left is.0)
-exp_level levels below free place (Exp-F.FromThenTo left first comma second dots last right) is =
-    inl (left_square begins_operand refl left is.0)
-exp_level levels below free place (Exp-F.Comprehension left part bar qualifiers right) is =
-    inl (left_square begins_operand refl left is.0)
-exp_level levels below free place (Exp-F.LeftSection left part operator right) is =
-    inl (left_paren begins_operand refl left is.0)
-exp_level levels below free place (Exp-F.RightSection left operator part right) is =
-    inl (left_paren begins_operand refl left is.0)
-exp_level levels below free place (Exp-F.Lambda mark patterns arrow body) is =
-    inr (opens_by Class.ReservedOp (codes "\\") mark is.1 refl)
-exp_level levels below free place (Exp-F.Let word block in_word body) is =
-    inr (opens_by Class.ReservedId (codes "let") word is.1 refl)
-exp_level levels below free place (Exp-F.If word test then_word first else_word second) is =
-    inr (opens_by Class.ReservedId (codes "if") word is.1 refl)
-exp_level levels below free place (Exp-F.Case word part of_word block) is =
-    inr (opens_by Class.ReservedId (codes "case") word is.1 refl)
-exp_level levels below free place (Exp-F.Annotated part colons ty) is =
-    expression_more (exp_items part) _ (below true ExpPlace.Annotated part is.2)
+exp_level levels below free place (Exp-F.Variable used) is = named_variable_begins used is
+exp_level levels below free place (Exp-F.Constructor named) is = used_constructor_begins named is
+exp_level levels below free place (Exp-F.Literal literal) is = inl (operand_literal literal is)
+exp_level levels below free place (Exp-F.Group left part right) is = inl (left_paren begins_operand refl left is.0)
+exp_level levels below free place (Exp-F.Tuple left parts right) is = inl (left_paren begins_operand refl left is.0)
+exp_level levels below free place (Exp-F.List left parts right) is = inl (left_square begins_operand refl left is.0)
+exp_level levels below free place (Exp-F.From left first dots right) is = inl (left_square begins_operand refl left is.0)
+exp_level levels below free place (Exp-F.FromThen left first comma second dots right) is = inl (left_square begins_operand refl left is.0)
+exp_level levels below free place (Exp-F.FromTo left first dots last right) is = inl (left_square begins_operand refl left is.0)
+exp_level levels below free place (Exp-F.FromThenTo left first comma second dots last right) is = inl (left_square begins_operand refl left is.0)
+exp_level levels below free place (Exp-F.Comprehension left part bar qualifiers right) is = inl (left_square begins_operand refl left is.0)
+exp_level levels below free place (Exp-F.LeftSection left part operator right) is = inl (left_paren begins_operand refl left is.0)
+exp_level levels below free place (Exp-F.RightSection left operator part right) is = inl (left_paren begins_operand refl left is.0)
+exp_level levels below free place (Exp-F.Lambda mark patterns arrow body) is = inr (opens_by Class.ReservedOp (codes "\\") mark is.1 refl)
+exp_level levels below free place (Exp-F.Let word block in_word body) is = inr (opens_by Class.ReservedId (codes "let") word is.1 refl)
+exp_level levels below free place (Exp-F.If word test then_word first else_word second) is = inr (opens_by Class.ReservedId (codes "if") word is.1 refl)
+exp_level levels below free place (Exp-F.Case word part of_word block) is = inr (opens_by Class.ReservedId (codes "case") word is.1 refl)
+exp_level levels below free place (Exp-F.Annotated part colons ty) is = expression_more (exp_items part) _ (below true ExpPlace.Annotated part is.2)
 exp_level levels below free place (Exp-F.Apply []) is = elim is.1 [ ]
-exp_level levels below free place (Exp-F.Apply (atom ∷ atoms)) is =
-    expression_more (exp_items atom) _ (below free ExpPlace.Atom atom is.2.0)
+exp_level levels below free place (Exp-F.Apply (atom ∷ atoms)) is = expression_more (exp_items atom) _ (below free ExpPlace.Atom atom is.2.0)
 exp_level levels below free place (Exp-F.Infix []) is = elim is.1 [ ]
 exp_level levels below free place (Exp-F.Infix (operand ∷ [])) is =
     expression_more (maybe_item operand.minus ++ (exp_items operand.part ++ maybe_operator operand.operator)) _

@@ -82,16 +82,13 @@ left_begins levels [] head closes is = begins_more begins_pattern (left_head_ite
 left_begins levels (left ∷ opens) head closes is = left_paren begins_pattern refl left is.0.0
 
 decl_level : (levels : ℕ) (place : DeclPlace) (layer : Decl-F Decl Exp Qualifier Alt) → DeclProduction (nodes levels) place layer → Begins (opens_part (kind_at place)) (decl_joined layer)
-decl_level levels place (Decl-F.Import import) is =
-    of_text (opens_part (kind_at place)) Class.ReservedId (codes "import") import.word is.1.0 (import_opens place is.0)
-decl_level levels place (Decl-F.Synonym word head equals ty) is =
-    of_text (opens_part (kind_at place)) Class.ReservedId (codes "type") word is.1 (top_opens place is.0)
+decl_level levels place (Decl-F.Import import) is = of_text (opens_part (kind_at place)) Class.ReservedId (codes "import") import.word is.1.0 (import_opens place is.0)
+decl_level levels place (Decl-F.Synonym word head equals ty) is = of_text (opens_part (kind_at place)) Class.ReservedId (codes "type") word is.1 (top_opens place is.0)
 decl_level levels place (Decl-F.Data word head equals constructions) is =
     of_text (opens_part (kind_at place)) Class.ReservedId (codes "data") word is.1 (top_opens place is.0)
 decl_level levels place (Decl-F.Newtype word head equals construction) is =
     of_text (opens_part (kind_at place)) Class.ReservedId (codes "newtype") word is.1 (top_opens place is.0)
-decl_level levels place (Decl-F.Signature names mark ty) is =
-    pattern_begins (kind_at place) _ (names_begin names is.1 is.2 _)
+decl_level levels place (Decl-F.Signature names mark ty) is = pattern_begins (kind_at place) _ (names_begin names is.1 is.2 _)
 decl_level levels place (Decl-F.Fixity word level operators) is =
     of_class (opens_part (kind_at place)) Class.ReservedId word is.1 (ap (opens_part (kind_at place)) (fixity_role word.lexeme.text is.2) ∙ fixity_opens place)
 decl_level levels place (Decl-F.Equation left body locals) is =

@@ -21,7 +21,8 @@ use Rattle.hr_tree.specs.declared.expressions.Decl.TheBlock.{shown-the_row-Decl-
 use denote.Hole.Carrier.{out, shown, hidden}
 use Rattle.hr_tree.specs.Lists.{block_items}
 use Rattle.hr_tree.specs.Yields.{done}
-use Rattle.hr_grammar.specs.Yields.{IsModule, nesting_limit}
+use Rattle.hr_grammar.specs.Nodes.{ExpPlace}
+use Rattle.hr_grammar.specs.Yields.{IsModule, nodes, nesting_limit}
 use Rattle.hr_grammar.specs.Spans.{Laid, Span, bare, block_laid, ◌▷◌}
 use Rattle.hr_grammar.specs.Offside.{placed_among, StandsWell}
 use Rattle.hr_grammar.specs.Worked.{item, joint, name, mark, only, defines, behind_blocks, Stands, case_in_tuple, case_in_comprehension, case_in_sequence, case_in_if, case_in_case, annotated_in_let, where_in_let, sum_behind_case, section_of_lambda, WorkedTrees}
@@ -38,10 +39,18 @@ items_with items = block_items done (only 1 items)
 abbrev AllStand : List Span → List Item → Type 0
 AllStand spans items = AllByRecursion (StandsWell spans (placed_among spans 0 (placed_of items))) spans
 
+-- an expression that is the body of a module's only declaration, within the limit on nesting
+abbrev pub IsBody : Exp → Type 0
+IsBody = (nodes 254).exp true ExpPlace.Whole
+
+pub defines_grammar : (text : List ℕ) (body : Exp) → IsBody body → IsModule nesting_limit (defines text body)
+unfolding out-Decl out-Pat out shown hidden shown-the_row-Decl-Equation-2-4-1
+defines_grammar text body is = (tt, (tt, ([], (defines text body).body.pieces, refl, tt, ((refl, refl, ((refl, refl), is), tt), tt))))
+
 -- what computes for such a module is so
 stands : (text : List ℕ) (body : Exp) (source : List ℕ) (ends : List (Option (List ℕ))) (read : ReadExp body)
     → let decl = read_binding {mark = mark (codes "=")} (read_bound {variable = name [] text}) read in
-    IsModule nesting_limit (defines text body)
+    IsBody body
     → all_stand_well (spans_with decl.laid) (placed_among (spans_with decl.laid) 0 (placed_of (items_with decl.items))) (spans_with decl.laid) ≡ true
     → joined (items_with decl.items) [] ≡ source
     → behind_blocks (spans_with decl.laid) (items_with decl.items) ≡ ends
@@ -49,7 +58,7 @@ stands : (text : List ℕ) (body : Exp) (source : List ℕ) (ends : List (Option
 stands text body source ends read grammar well is_text are_ends =
     let decl = read_binding {mark = mark (codes "=")} (read_bound {variable = name [] text}) read in
     record {
-      grammar = grammar;
+      grammar = defines_grammar text body grammar;
       offside = subst (λ (laid : Laid). AllStand (spans_with laid) (items_with (of_decl yield_by (Binding (Bound (name [] text)) (Body.Plain (mark (codes "=")) body) None)))) (sym decl.laid_is)
           (subst (λ (items : List Item). AllStand (spans_with decl.laid) (items_with items)) (sym decl.items_is) (all_stand_well_is (spans_with decl.laid) _ (spans_with decl.laid) well));
       spelled = ap (λ (items : List Item). joined (items_with items) []) decl.items_is ∙ is_text;
@@ -59,260 +68,61 @@ stands text body source ends read grammar well is_text are_ends =
 pub not_empty : {T : Type 0} (x : T) (xs : List T) → (x ∷ xs) ≢ []
 not_empty x xs = λ e. cc
 
-section_grammar : IsModule nesting_limit (defines (codes "a") section_of_lambda)
+section_grammar : IsBody section_of_lambda
 unfolding out-Exp out-Decl out-Pat out-Ty out shown hidden shown-the_row-Decl-Equation-2-4-1 shown-the_row-Exp-2
-section_grammar = (
-  tt,
-  (
-    tt,
-    (
-      [],
-      (defines (codes "a") section_of_lambda).body.pieces,
-      refl,
-      tt,
-      (
-        (
-          refl,
-          refl,
-          (
-            (refl, refl),
-            ((refl, refl), (refl, (refl, refl), not_empty _ _, (refl, tt), (refl, refl), inl refl), inl (inl refl), (refl, refl)),
-          ),
-          tt,
-        ),
-        tt,
-      ),
-    ),
-  ),
-)
+section_grammar =
+    ((refl, refl), (refl, (refl, refl), not_empty _ _, (refl, tt), (refl, refl), inl refl), inl (inl refl), (refl, refl))
 
-tuple_grammar : IsModule nesting_limit (defines (codes "a") case_in_tuple)
+tuple_grammar : IsBody case_in_tuple
 unfolding out-Exp out-Decl out-Qualifier out-Pat out-Ty out shown hidden shown-the_row-Decl-Equation-2-4-1 shown-the_row-Exp-2 shown-the_row-Exp-Case-3-3-7 shown-the_row-Exp-Infix-0-3-6
-tuple_grammar = (
-  tt,
-  (
-    tt,
-    (
-      [],
-      (defines (codes "a") case_in_tuple).body.pieces,
-      refl,
-      tt,
-      (
-        (
-          refl,
-          refl,
-          (
-            (refl, refl),
-            ((refl, refl), ((refl, (refl, refl), inl refl, (refl, refl), (tt, ((refl, (((refl, refl), inl refl), tt)), tt))), ((refl, refl), (inl refl, refl))), (omega arith, omega arith), (refl, refl)),
-          ),
-          tt,
-        ),
-        tt,
-      ),
-    ),
-  ),
-)
+tuple_grammar =
+    ((refl, refl), ((refl, (refl, refl), inl refl, (refl, refl), (tt, ((refl, (((refl, refl), inl refl), tt)), tt))), ((refl, refl), (inl refl, refl))), (omega arith, omega arith), (refl, refl))
 
-comprehension_grammar : IsModule nesting_limit (defines (codes "a") case_in_comprehension)
+comprehension_grammar : IsBody case_in_comprehension
 unfolding out-Exp out-Decl out-Qualifier out-Pat out-Ty out shown hidden shown-the_row-Decl-Equation-2-4-1 shown-the_row-Exp-2 shown-the_row-Exp-Case-3-3-7 shown-the_row-Exp-Infix-0-3-6
-comprehension_grammar = (
-  tt,
-  (
-    tt,
-    (
-      [],
-      (defines (codes "a") case_in_comprehension).body.pieces,
-      refl,
-      tt,
-      (
-        (
-          refl,
-          refl,
-          (
-            (refl, refl),
-            ((refl, refl), (refl, (refl, refl), inl refl, (refl, refl), (tt, ((refl, (((refl, refl), (refl, tt, (tt, inl refl, (_, refl, inr (inr (inr (refl, refl)))), (tt, ((refl, refl), (refl, refl)), refl)))), tt)), tt))), (refl, refl), ((refl, (refl, refl), inl refl), refl), not_empty _ _, (refl, refl)),
-          ),
-          tt,
-        ),
-        tt,
-      ),
-    ),
-  ),
-)
+comprehension_grammar =
+    ((refl, refl), (refl, (refl, refl), inl refl, (refl, refl), (tt, ((refl, (((refl, refl), (refl, tt, (tt, inl refl, (_, refl, inr (inr (inr (refl, refl)))), (tt, ((refl, refl), (refl, refl)), refl)))), tt)), tt))), (refl, refl), ((refl, (refl, refl), inl refl), refl), not_empty _ _, (refl, refl))
 
-sequence_grammar : IsModule nesting_limit (defines (codes "a") case_in_sequence)
+sequence_grammar : IsBody case_in_sequence
 unfolding out-Exp out-Decl out-Qualifier out-Pat out-Ty out shown hidden shown-the_row-Decl-Equation-2-4-1 shown-the_row-Exp-2 shown-the_row-Exp-Case-3-3-7 shown-the_row-Exp-Infix-0-3-6
-sequence_grammar = (
-  tt,
-  (
-    tt,
-    (
-      [],
-      (defines (codes "a") case_in_sequence).body.pieces,
-      refl,
-      tt,
-      (
-        (
-          refl,
-          refl,
-          (
-            (refl, refl),
-            ((refl, refl), (refl, (refl, refl), inl refl, (refl, refl), (tt, ((refl, (((refl, refl), inl refl), tt)), tt))), (refl, refl), (refl, refl)),
-          ),
-          tt,
-        ),
-        tt,
-      ),
-    ),
-  ),
-)
+sequence_grammar =
+    ((refl, refl), (refl, (refl, refl), inl refl, (refl, refl), (tt, ((refl, (((refl, refl), inl refl), tt)), tt))), (refl, refl), (refl, refl))
 
-if_grammar : IsModule nesting_limit (defines (codes "a") case_in_if)
+if_grammar : IsBody case_in_if
 unfolding out-Exp out-Decl out-Pat out-Ty out shown hidden shown-the_row-Decl-Equation-2-4-1 shown-the_row-Exp-2 shown-the_row-Exp-Case-3-3-7 shown-the_row-Exp-Infix-0-3-6
-if_grammar = (
-  tt,
-  (
-    tt,
-    (
-      [],
-      (defines (codes "a") case_in_if).body.pieces,
-      refl,
-      tt,
-      (
-        (
-          refl,
-          refl,
-          (
-            (refl, refl),
-            (refl, (refl, refl), (refl, (refl, refl), inl refl, (refl, refl), (tt, ((refl, (((refl, refl), inl refl), tt)), tt))), (refl, refl), inl refl, (refl, refl), inl refl),
-          ),
-          tt,
-        ),
-        tt,
-      ),
-    ),
-  ),
-)
+if_grammar =
+    (refl, (refl, refl), (refl, (refl, refl), inl refl, (refl, refl), (tt, ((refl, (((refl, refl), inl refl), tt)), tt))), (refl, refl), inl refl, (refl, refl), inl refl)
 
-case_grammar : IsModule nesting_limit (defines (codes "a") case_in_case)
+case_grammar : IsBody case_in_case
 unfolding out-Exp out-Decl out-Qualifier out-Pat out-Ty out shown hidden shown-the_row-Decl-Equation-2-4-1 shown-the_row-Exp-2 shown-the_row-Exp-Case-3-3-7 shown-the_row-Exp-Infix-0-3-6
-case_grammar = (
-  tt,
-  (
-    tt,
-    (
-      [],
-      (defines (codes "a") case_in_case).body.pieces,
-      refl,
-      tt,
-      (
-        (
-          refl,
-          refl,
-          (
-            (refl, refl),
-            (refl, (refl, refl), (refl, (refl, refl), inl refl, (refl, refl), (tt, ((refl, (((refl, refl), inl refl), tt)), tt))), (refl, refl), (tt, ((refl, (((refl, refl), inl refl), tt)), tt))),
-          ),
-          tt,
-        ),
-        tt,
-      ),
-    ),
-  ),
-)
+case_grammar =
+    (refl, (refl, refl), (refl, (refl, refl), inl refl, (refl, refl), (tt, ((refl, (((refl, refl), inl refl), tt)), tt))), (refl, refl), (tt, ((refl, (((refl, refl), inl refl), tt)), tt)))
 
-annotated_grammar : IsModule nesting_limit (defines (codes "a") annotated_in_let)
+annotated_grammar : IsBody annotated_in_let
 unfolding out-Exp out-Decl out-Pat out-Ty out shown hidden shown-the_row-Decl-Equation-2-4-1 shown-the_row-Exp-2
-annotated_grammar = (
-  tt,
-  (
-    tt,
-    (
-      [],
-      (defines (codes "a") annotated_in_let).body.pieces,
-      refl,
-      tt,
-      (
-        (
-          refl,
-          refl,
-          (
-            (refl, refl),
-            (refl, (refl, refl), (tt, ((refl, refl, ((refl, refl), (refl, refl, inl refl, (refl, refl), inl refl)), tt), tt)), (refl, refl), inl refl),
-          ),
-          tt,
-        ),
-        tt,
-      ),
-    ),
-  ),
-)
+annotated_grammar =
+    (refl, (refl, refl), (tt, ((refl, refl, ((refl, refl), (refl, refl, inl refl, (refl, refl), inl refl)), tt), tt)), (refl, refl), inl refl)
 
-where_grammar : IsModule nesting_limit (defines (codes "a") where_in_let)
+where_grammar : IsBody where_in_let
 unfolding out-Exp out-Decl out-Qualifier out-Pat out-Ty out shown hidden shown-the_row-Decl-Equation-2-4-1 shown-the_row-Exp-2 shown-the_row-Exp-Case-3-3-7 shown-the_row-Exp-Infix-0-3-6
-where_grammar = (
-  tt,
-  (
-    tt,
-    (
-      [],
-      (defines (codes "a") where_in_let).body.pieces,
-      refl,
-      tt,
-      (
-        (
-          refl,
-          refl,
-          (
-            (refl, refl),
-            (refl, (refl, refl), (tt, ((refl, refl, ((refl, refl), inl refl), ((refl, refl), (tt, ((refl, refl, ((refl, refl), inl refl), tt), tt)))), tt)), (refl, refl), inl refl),
-          ),
-          tt,
-        ),
-        tt,
-      ),
-    ),
-  ),
-)
+where_grammar =
+    (refl, (refl, refl), (tt, ((refl, refl, ((refl, refl), inl refl), ((refl, refl), (tt, ((refl, refl, ((refl, refl), inl refl), tt), tt)))), tt)), (refl, refl), inl refl)
 
-sum_grammar : IsModule nesting_limit (defines (codes "x") sum_behind_case)
+sum_grammar : IsBody sum_behind_case
 unfolding out-Exp out-Decl out-Pat out-Ty out shown hidden shown-the_row-Decl-Equation-2-4-1 shown-the_row-Exp-2 shown-the_row-Exp-Case-3-3-7 shown-the_row-Exp-Infix-0-3-6
 sum_grammar = (
-  tt,
+  (refl, refl),
   (
+    refl,
     tt,
     (
-      [],
-      (defines (codes "x") sum_behind_case).body.pieces,
-      refl,
       tt,
-      (
-        (
-          refl,
-          refl,
-          (
-            (refl, refl),
-            (
-              (refl, refl),
-              (
-                refl,
-                tt,
-                (
-                  tt,
-                  (refl, (refl, refl), inl refl, (refl, refl), (tt, ((inl refl, (((refl, refl), (refl, refl, inl refl, (refl, refl), inl refl)), tt)), tt))),
-                  (_, refl, inl (inl refl)),
-                  (tt, inl refl, refl),
-                ),
-              ),
-              (refl, refl),
-            ),
-          ),
-          tt,
-        ),
-        tt,
-      ),
+      (refl, (refl, refl), inl refl, (refl, refl), (tt, ((inl refl, (((refl, refl), (refl, refl, inl refl, (refl, refl), inl refl)), tt)), tt))),
+      (_, refl, inl (inl refl)),
+      (tt, inl refl, refl),
     ),
   ),
+  (refl, refl),
 )
 
 tuple_stands : Stands (defines (codes "a") case_in_tuple) (codes "a = (case x of y -> 1, 2)") (None ∷ Some (codes ",") ∷ [])

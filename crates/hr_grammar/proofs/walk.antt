@@ -1,3 +1,4 @@
+-- The walk over all productions of the grammar: what goes over from the items of parts to those of the whole.
 pub mod Declarations
 pub mod Expressions
 pub mod Heads

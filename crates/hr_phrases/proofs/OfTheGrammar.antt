@@ -12,44 +12,20 @@ use Rattle.hr_tree.specs.declared.expressions.Decl.TheBlock.{shown-the_row-Decl-
 use denote.Hole.Carrier.{out, shown, hidden}
 use Rattle.hr_tree.specs.Lists.{block_items, body_items}
 use Rattle.hr_tree.specs.Yields.{done, decl_layer, exp_layer, qualifier_layer, alt_layer}
-use Rattle.hr_grammar.specs.Yields.{IsModule, nesting_limit}
-use Rattle.hr_grammar.specs.Worked.{item, variable, number, name, bound, mark, only, defines}
-use Rattle.hr_grammar.proofs.Worked.{not_empty}
+use Rattle.hr_grammar.specs.Worked.{item, variable, number, name, bound, mark, only}
+use Rattle.hr_grammar.proofs.Worked.{not_empty, IsBody, defines_grammar}
 use Rattle.hr_grammar.proofs.Laid.{ReadExp, ReadAlt, of_alt, laid_by, read_bound, read_binding, read_variable, read_literal, read_case, read_generator, read_comprehension}
 use Rattle.hr_phrases.specs.GuardBeforeBar.{guarded_in_comprehension, GuardBeforeBarIsOfTheGrammar}
 
-grammar : IsModule nesting_limit (defines (codes "a") guarded_in_comprehension)
+grammar : IsBody guarded_in_comprehension
 unfolding out-Exp out-Decl out-Qualifier out-Pat out shown hidden shown-the_row-Decl-Equation-2-4-1 shown-the_row-Exp-2 shown-the_row-Exp-Case-3-3-7 shown-the_row-Exp-Infix-0-3-6
 grammar = (
-  tt,
-  (
-    tt,
-    (
-      [],
-      (defines (codes "a") guarded_in_comprehension).body.pieces,
-      refl,
-      tt,
-      (
-        (
-          refl,
-          refl,
-          (
-            (refl, refl),
-            (
-              (refl, refl),
-              (refl, (refl, refl), inl refl, (refl, refl), (tt, ((refl, ((not_empty _ _, (((refl, refl), (inl refl, ((refl, refl), inl refl))), tt)), tt)), tt))),
-              (refl, refl),
-              ((refl, (refl, refl), inl refl), refl),
-              not_empty _ _,
-              (refl, refl),
-            ),
-          ),
-          tt,
-        ),
-        tt,
-      ),
-    ),
-  ),
+  (refl, refl),
+  (refl, (refl, refl), inl refl, (refl, refl), (tt, ((refl, ((not_empty _ _, (((refl, refl), (inl refl, ((refl, refl), inl refl))), tt)), tt)), tt))),
+  (refl, refl),
+  ((refl, (refl, refl), inl refl), refl),
+  not_empty _ _,
+  (refl, refl),
 )
 
 -- its items
@@ -76,4 +52,4 @@ pub of_the_grammar_lem : GuardBeforeBarIsOfTheGrammar
 of_the_grammar_lem =
     let read : ReadExp guarded_in_comprehension = read_comprehension (read_case read_variable read_alternative) (read_generator read_bound read_variable) in
     let decl = read_binding {mark = mark (codes "=")} (read_bound {variable = name [] (codes "a")}) read in
-    record { grammar = grammar; items_are = ap (λ (items : List Item). record { list = block_items done (only 1 items); tail = [] }) decl.items_is }
+    record { grammar = defines_grammar (codes "a") guarded_in_comprehension grammar; items_are = ap (λ (items : List Item). record { list = block_items done (only 1 items); tail = [] }) decl.items_is }

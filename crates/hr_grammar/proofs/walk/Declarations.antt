@@ -59,33 +59,32 @@ arrow_mark : {P Q : List Item → Type 0} → InTrees P Q → (item : Item) → 
 arrow_mark h item is = of_word h Class.ReservedOp (codes "->") item is refl
 
 decl_level : {P Q : List Item → Type 0} → InTrees P Q → (levels : ℕ) → Below P levels → (place : DeclPlace) (layer : Decl-F Decl Exp Qualifier Alt) → DeclProduction (nodes levels) place layer → P (decl_joined layer)
-decl_level {P} h levels below place (Decl-F.Import import) is =
-    import_keeps (patterns_of h) import is.1
-decl_level {P} h levels below place (Decl-F.Synonym word head sign ty) is =
+decl_level h levels below place (Decl-F.Import import) is = import_keeps (patterns_of h) import is.1
+decl_level h levels below place (Decl-F.Synonym word head sign ty) is =
     before h Class.ReservedId (codes "type") word (type_head_items head ++ sign ∷ ty_items ty) is.1 refl
     (h.joins.join (type_head_items head) (sign ∷ ty_items ty) (type_head_keeps (patterns_of h) head is.2) (put h.joins sign (ty_items ty) (equals h sign is.3) (types_keep (types_of h) levels TyPlace.Whole ty is.4)))
-decl_level {P} h levels below place (Decl-F.Data word head sign constructions) is =
+decl_level h levels below place (Decl-F.Data word head sign constructions) is =
     before h Class.ReservedId (codes "data") word (type_head_items head ++ sign ∷ flat_map (listed_items construction_items) constructions) is.1 refl
     (h.joins.join (type_head_items head) (sign ∷ flat_map (listed_items construction_items) constructions) (type_head_keeps (patterns_of h) head is.2)
     (put h.joins sign (flat_map (listed_items construction_items) constructions) (equals h sign is.3)
     (constructions_keep (types_of h) levels constructions is.4)))
-decl_level {P} h levels below place (Decl-F.Newtype word head sign construction) is =
+decl_level h levels below place (Decl-F.Newtype word head sign construction) is =
     before h Class.ReservedId (codes "newtype") word (type_head_items head ++ sign ∷ construction_items construction) is.1 refl
     (h.joins.join (type_head_items head) (sign ∷ construction_items construction) (type_head_keeps (patterns_of h) head is.2)
     (put h.joins sign (construction_items construction) (equals h sign is.3) (new_construction_keeps (types_of h) levels construction is.4)))
-decl_level {P} h levels below place (Decl-F.Signature names mark ty) is =
+decl_level h levels below place (Decl-F.Signature names mark ty) is =
     h.joins.join (flat_map (listed_items variable_items) names) (mark ∷ ty_items ty)
     (separated h.joins variable_items IsComma IsVariable (comma (patterns_of h)) (variable (patterns_of h)) names is.1)
     (before h Class.ReservedOp (codes "::") mark (ty_items ty) is.3 refl (types_keep (types_of h) levels TyPlace.Whole ty is.4))
-decl_level {P} h levels below place (Decl-F.Fixity word level operators) is =
+decl_level h levels below place (Decl-F.Fixity word level operators) is =
     put h.joins word (maybe_item level ++ flat_map (listed_items operator_items) operators) (fixity_keeps (patterns_of h) word is.1 is.2)
     (h.joins.join (maybe_item level) (flat_map (listed_items operator_items) operators)
     (maybe h.joins IsDigit (λ item d. of_class (patterns_of h) Class.Integer item d.0 refl) level is.3)
     (separated h.joins operator_items IsComma IsOwnOperator (comma (patterns_of h)) (own_operator (patterns_of h)) operators is.4))
-decl_level {P} h levels below place (Decl-F.Equation left body locals) is =
+decl_level h levels below place (Decl-F.Equation left body locals) is =
     h.joins.join (left_side_items left) (body_items exp_items body ++ where_items decl_items locals) (left_side_keeps (patterns_of h) levels left is.1)
     (h.joins.join (body_items exp_items body) (where_items decl_items locals) (body_keeps h levels below IsEquals (equals h) body is.2) (where_keeps h levels below locals is.3))
-decl_level {P} h levels below place (Decl-F.Binding pattern body locals) is =
+decl_level h levels below place (Decl-F.Binding pattern body locals) is =
     h.joins.join (pat_items pattern) (body_items exp_items body ++ where_items decl_items locals) (patterns_keep (patterns_of h) levels PatPlace.Whole pattern is.1)
     (h.joins.join (body_items exp_items body) (where_items decl_items locals) (body_keeps h levels below IsEquals (equals h) body is.2) (where_keeps h levels below locals is.3))
 

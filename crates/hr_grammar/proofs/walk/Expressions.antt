@@ -62,13 +62,12 @@ inside_joins : {P Q : List Item → Type 0} → InTrees P Q → Joins Q
 inside_joins h = record { nothing = h.inside [] h.joins.nothing; join = h.inside_join }
 
 qualifier_level : {P Q : List Item → Type 0} → InTrees P Q → (levels : ℕ) → Below P levels → (layer : Qualifier-F Decl Exp Qualifier Alt) → QualifierProduction (nodes levels) layer → Q (qualifier_joined layer)
-qualifier_level {P} {Q} h levels below (Qualifier-F.Generator pattern arrow part) is =
+qualifier_level h levels below (Qualifier-F.Generator pattern arrow part) is =
     h.inside_join (pat_items pattern) (arrow ∷ exp_items part) (h.inside (pat_items pattern) (patterns_keep (patterns_of h) levels PatPlace.Whole pattern is.0))
     (put (inside_joins h) arrow (exp_items part) (h.inside_arrow arrow is.1) (h.inside (exp_items part) (below.exp true ExpPlace.Whole part is.2)))
-qualifier_level {P} {Q} h levels below (Qualifier-F.Locals word block) is =
+qualifier_level h levels below (Qualifier-F.Locals word block) is =
     put (inside_joins h) word (block_items decl_items block) (h.inside_let word is.0) (h.inside (block_items decl_items block) (below.declarations DeclPlace.Local block is.1))
-qualifier_level {P} {Q} h levels below (Qualifier-F.Test part) is =
-    h.inside (exp_items part) (below.exp true ExpPlace.Whole part is)
+qualifier_level h levels below (Qualifier-F.Test part) is = h.inside (exp_items part) (below.exp true ExpPlace.Whole part is)
 
 qualifier : {P Q : List Item → Type 0} → InTrees P Q → (levels : ℕ) → Below P levels → (part : Qualifier) → IsQualifierOver (nodes levels) part → Q (qualifier_items part)
 qualifier {P} {Q} h levels below part is = subst Q (sym (yields_join_lem.qualifier part)) (qualifier_level h levels below (out-Qualifier part) is)
@@ -87,18 +86,14 @@ bracketed_three P left xs item ys zs right p =
     subst (λ l. P (left ∷ (xs ++ item ∷ l))) (append_assoc ys zs (right ∷ [])) (bracketed P left xs (item ∷ (ys ++ zs)) right p)
 
 pub exp_level : {P Q : List Item → Type 0} → InTrees P Q → (levels : ℕ) → Below P levels → (free : Bool) (place : ExpPlace) (layer : Exp-F Decl Exp Qualifier Alt) → ExpProduction (nodes levels) free place layer → P (exp_joined layer)
-exp_level {P} h levels below free place (Exp-F.Variable named) is =
-    named_variable (patterns_of h) named is
-exp_level {P} h levels below free place (Exp-F.Constructor named) is =
-    constructor (patterns_of h) named is
-exp_level {P} h levels below free place (Exp-F.Literal item) is =
-    literal (patterns_of h) item is
-exp_level {P} h levels below free place (Exp-F.Group left part right) is =
-    h.parens left right (exp_items part) is.0 is.2 (below.exp true ExpPlace.Whole part is.1)
-exp_level {P} h levels below free place (Exp-F.Tuple left parts right) is =
+exp_level h levels below free place (Exp-F.Variable named) is = named_variable (patterns_of h) named is
+exp_level h levels below free place (Exp-F.Constructor named) is = constructor (patterns_of h) named is
+exp_level h levels below free place (Exp-F.Literal item) is = literal (patterns_of h) item is
+exp_level h levels below free place (Exp-F.Group left part right) is = h.parens left right (exp_items part) is.0 is.2 (below.exp true ExpPlace.Whole part is.1)
+exp_level h levels below free place (Exp-F.Tuple left parts right) is =
     h.parens left right (flat_map (listed_items exp_items) parts) is.0 is.3
     (separated h.joins exp_items IsComma ((nodes levels).exp true ExpPlace.Whole) (comma (patterns_of h)) (below.exp true ExpPlace.Whole) parts is.1)
-exp_level {P} h levels below free place (Exp-F.List left parts right) is =
+exp_level h levels below free place (Exp-F.List left parts right) is =
     h.squares left right (flat_map (listed_items exp_items) parts) is.0 is.3 (h.inside (flat_map (listed_items exp_items) parts)
     (separated h.joins exp_items IsComma ((nodes levels).exp true ExpPlace.Whole) (comma (patterns_of h)) (below.exp true ExpPlace.Whole) parts is.1))
 exp_level {P} h levels below free place (Exp-F.From left first mark right) is =
@@ -121,7 +116,7 @@ exp_level {P} h levels below free place (Exp-F.FromThenTo left first sign second
     (put h.joins sign (exp_items second ++ mark ∷ exp_items last) (comma (patterns_of h) sign is.2)
     (h.joins.join (exp_items second) (mark ∷ exp_items last) (below.exp true ExpPlace.Whole second is.3)
     (put h.joins mark (exp_items last) (dots h mark is.4) (below.exp true ExpPlace.Whole last is.5)))))))
-exp_level {P} {Q} h levels below free place (Exp-F.Comprehension left part bar qualifiers right) is =
+exp_level {P} h levels below free place (Exp-F.Comprehension left part bar qualifiers right) is =
     bracketed P left (exp_items part) (bar ∷ flat_map (listed_items qualifier_items) qualifiers) right
     (h.squares left right (exp_items part ++ bar ∷ flat_map (listed_items qualifier_items) qualifiers) is.0 is.5
     (h.inside_join (exp_items part) (bar ∷ flat_map (listed_items qualifier_items) qualifiers) (h.inside (exp_items part) (below.exp true ExpPlace.Whole part is.1))
@@ -133,28 +128,26 @@ exp_level {P} h levels below free place (Exp-F.LeftSection left part sign right)
 exp_level {P} h levels below free place (Exp-F.RightSection left sign part right) is =
     bracketed P left (operator_items sign) (exp_items part) right (h.parens left right (operator_items sign ++ exp_items part) is.0 is.4
     (h.joins.join (operator_items sign) (exp_items part) (any_operator (patterns_of h) sign is.1) (below.exp true ExpPlace.Sequence part is.3)))
-exp_level {P} h levels below free place (Exp-F.Apply atoms) is =
-    all_of h.joins exp_items ((nodes levels).exp free ExpPlace.Atom) (below.exp free ExpPlace.Atom) atoms is.2
-exp_level {P} h levels below free place (Exp-F.Case word part of_sign block) is =
+exp_level h levels below free place (Exp-F.Apply atoms) is = all_of h.joins exp_items ((nodes levels).exp free ExpPlace.Atom) (below.exp free ExpPlace.Atom) atoms is.2
+exp_level h levels below free place (Exp-F.Case word part of_sign block) is =
     before h Class.ReservedId (codes "case") word (exp_items part ++ of_sign ∷ block_items alt_items block) is.1 refl
     (h.joins.join (exp_items part) (of_sign ∷ block_items alt_items block) (below.exp free ExpPlace.Whole part is.2)
     (before h Class.ReservedId (codes "of") of_sign (block_items alt_items block) is.3 refl (below.alternatives block is.4)))
-exp_level {P} h levels below free place (Exp-F.Lambda mark patterns arrow body) is =
+exp_level h levels below free place (Exp-F.Lambda mark patterns arrow body) is =
     before h Class.ReservedOp (codes "\\") mark (flat_map pat_items patterns ++ arrow ∷ exp_items body) is.1 refl
     (h.joins.join (flat_map pat_items patterns) (arrow ∷ exp_items body)
     (all_of h.joins pat_items ((nodes levels).pat PatPlace.Atomic) (patterns_keep (patterns_of h) levels PatPlace.Atomic) patterns is.3)
     (before h Class.ReservedOp (codes "->") arrow (exp_items body) is.4 refl (below.exp free ExpPlace.Whole body is.5)))
-exp_level {P} h levels below free place (Exp-F.Let word block in_word body) is =
+exp_level h levels below free place (Exp-F.Let word block in_word body) is =
     h.lets word in_word (block_items decl_items block) (exp_items body) is.1 is.3 (below.declarations DeclPlace.Local block is.2) (below.exp free ExpPlace.Whole body is.4)
-exp_level {P} h levels below free place (Exp-F.If word test then_word first else_word second) is =
+exp_level h levels below free place (Exp-F.If word test then_word first else_word second) is =
     before h Class.ReservedId (codes "if") word (exp_items test ++ then_word ∷ (exp_items first ++ else_word ∷ exp_items second)) is.1 refl
     (h.joins.join (exp_items test) (then_word ∷ (exp_items first ++ else_word ∷ exp_items second)) (below.exp free ExpPlace.Whole test is.2)
     (before h Class.ReservedId (codes "then") then_word (exp_items first ++ else_word ∷ exp_items second) is.3 refl
     (h.joins.join (exp_items first) (else_word ∷ exp_items second) (below.exp free ExpPlace.Whole first is.4)
     (before h Class.ReservedId (codes "else") else_word (exp_items second) is.5 refl (below.exp free ExpPlace.Whole second is.6)))))
-exp_level {P} h levels below free place (Exp-F.Infix list) is =
-    operands h levels below free (last_operand place) list is.2
-exp_level {P} h levels below free place (Exp-F.Annotated part colons ty) is =
+exp_level h levels below free place (Exp-F.Infix list) is = operands h levels below free (last_operand place) list is.2
+exp_level h levels below free place (Exp-F.Annotated part colons ty) is =
     h.joins.join (exp_items part) (colons ∷ ty_items ty) (below.exp true ExpPlace.Annotated part is.2)
     (before h Class.ReservedOp (codes "::") colons (ty_items ty) is.3 refl (types_keep (types_of h) levels TyPlace.Whole ty is.4))
-exp_level {P} h levels below free place (Exp-F.Fields part left fields right) is = elim is [ ]
+exp_level h levels below free place (Exp-F.Fields part left fields right) is = elim is [ ]
