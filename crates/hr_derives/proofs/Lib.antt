@@ -8,11 +8,17 @@ pub mod GrammaticalDeclarations
 pub mod GrammaticalExpressions
 pub mod GrammaticalLeaves
 pub mod GrammaticalModules
+pub mod Heads
 pub mod Imports
 pub mod Modules
 pub mod Patterns
 pub mod Readings
 pub mod Shrinks
+pub mod Standing
+pub mod StandingBlocks
+pub mod StandingPieces
 pub mod Stops
+pub mod Stretches
+pub mod Taken
 pub mod Types
 pub mod Worked

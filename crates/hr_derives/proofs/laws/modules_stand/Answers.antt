@@ -1,0 +1,5 @@
+use Rattle.hr_derives.proofs.Standing.{then_stands}
+use Rattle.hr_derives.proofs.laws.modules_stand.Goals as goal
+
+pub returns : goal.returns
+returns c = ?
