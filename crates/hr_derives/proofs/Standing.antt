@@ -211,7 +211,7 @@ then_stands {text} {n} {opened} {a} {b} g h = record {
 }
 
 -- ---- lexemes without a block
-none_between : (start i : ℕ) → start ≤ i → i < start + 0 → ⊥
+pub none_between : (start i : ℕ) → start ≤ i → i < start + 0 → ⊥
 none_between start i l h = omega arith
 
 pub nothing_stands : {text : Text} {n : ℕ} → Stands text n false (bare []) nothing

@@ -259,10 +259,10 @@ not_empty m n l = by (nat_le n m) refl
     by false e = e
 
 -- the text's blocks that start in the block are the block itself, which is not left empty, and those in its pieces
-implicit_known : {T : Type 0} {text : Text} {of : T → Laid} {kind : BlockKind} {m col start : ℕ} {pieces : List (Piece T)} → m < col
+implicit_known : {T : Type 0} {text : Text} (of : T → Laid) (kind : BlockKind) (m col start : ℕ) (pieces : List (Piece T)) → m < col
     → Known text true start (block_laid kind (implicit_block of col pieces)).extent ((block_laid kind (implicit_block of col pieces)).blocks m start)
     → Known text true start (pieces_laid of pieces).extent ((pieces_laid of pieces).blocks col start)
-implicit_known {text = text} {of = of} {m = m} {col = col} {start = start} {pieces = pieces} l k = record {
+implicit_known {text = text} of kind m col start pieces l k = record {
   marks = λ i a h. k.marks i a (omega arith) ∙ ap (λ b. (b && (start == i)) || is_empty_at ((pieces_laid of pieces).blocks col (start + 0)) i) (not_empty m col l)
       ∙ ap (λ s. is_empty_at ((pieces_laid of pieces).blocks col s) i) (none_more start);
   among = λ span has. k.among span (inr (subst (λ s. Has ((pieces_laid of pieces).blocks col s) span) (sym (none_more start)) has));
@@ -277,7 +277,7 @@ implicit_there : {T : Type 0} {text : Text} {of : T → Laid} {parts : Parts T} 
     → ts ≡ drop start text.placed → Standing text m true begun start (block_laid kind (implicit_block of col pieces)) us
 implicit_there {text = text} {of = of} p kind m place col pieces ts us opened r ends begun start k e =
     let o = opens_implicit m col ts opened in
-    let known = implicit_known {kind = kind} {pieces = pieces} o.0 k in
+    let known = implicit_known of kind m col start pieces o.0 k in
     let within = pieces_within p kind col place Ending.Nothing pieces ts us r start in
     let none = known.marks start (omega arith) (omega arith) ∙ none_at_start text start (pieces_laid of pieces).extent ((pieces_laid of pieces).blocks col start) within in
     let standing = pieces_stand p kind col place Ending.Nothing pieces ts us r start (later_known known) (e ∙ seen_plain text start none) in
@@ -346,7 +346,7 @@ explicit_there : {T : Type 0} {text : Text} {of : T → Laid} {parts : Parts T} 
 explicit_there {text = text} {of = of} p kind m place left right pieces ts us r begun start k e =
     let inner = explicit_stands p m place left right pieces in
     let spans = (pieces_laid of pieces).blocks 0 (start + 1) in
-    let within = λ span has. inner.within ts us r start span (has_first spans [] span has) in
+    let within : (span : Span) → Has spans span → Within false start (in_braces of left right pieces).extent span = λ span has. inner.within ts us r start span (has_first spans [] span has) in
     let none = k.marks start (omega arith) (omega arith) ∙ none_at_start text start (in_braces of left right pieces).extent spans within in
     let s = inner.stands ts us r false start
     (record { marks = λ i a h. k.marks i (omega arith) h ∙ ap (λ l. is_empty_at l i) (sym (append-nil spans)); among = λ span has. k.among span (inr (subst (λ l. Has l span) (append-nil spans) has)) })

@@ -81,7 +81,7 @@ abbrev pub AtLeast : Text → ℕ → ℕ → Type 0
 AtLeast text n i = Next (λ next. left_of n next ≡ false) (drop i (lexemes text))
 
 not_both : (a b : Bool) → (a && b) ≡ false → b ≡ true → a ≡ false
-not_both true true e f = sym e ∙ f
+not_both true true e f = e
 not_both true false e f = let no : ⊥ = cc in elim no [ ]
 not_both false b e f = refl
 
