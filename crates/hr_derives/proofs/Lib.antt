@@ -16,7 +16,9 @@ pub mod Readings
 pub mod Shrinks
 pub mod Standing
 pub mod StandingBlocks
+pub mod StandingExpressions
 pub mod StandingPieces
+pub mod StandingTrees
 pub mod Stops
 pub mod Stretches
 pub mod Taken

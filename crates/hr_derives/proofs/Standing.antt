@@ -268,7 +268,7 @@ takes_stands {text} {n} item = record {
 pub one_stands : {text : Text} {n : ℕ} (Is : Item → Type 0) (item : Item) → Stands text n false (one_laid item) (one n Is item)
 one_stands Is item = given_stands (Is item) (takes_stands item)
 
-all_stand : {text : Text} {n : ℕ} (items : List Item) → Stands text n false (bare items) (take_all n items)
+pub all_stand : {text : Text} {n : ℕ} (items : List Item) → Stands text n false (bare items) (take_all n items)
 all_stand [] = nothing_stands
 all_stand (item ∷ items) = same_stands (bare_then item items) (then_stands (takes_stands item) (all_stand items))
 
