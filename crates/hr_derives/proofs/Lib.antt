@@ -16,6 +16,7 @@ pub mod Readings
 pub mod Shrinks
 pub mod Standing
 pub mod StandingBlocks
+pub mod StandingDeclarations
 pub mod StandingExpressions
 pub mod StandingPieces
 pub mod StandingTrees

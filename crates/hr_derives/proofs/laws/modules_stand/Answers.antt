@@ -1,4 +1,4 @@
-use Rattle.hr_derives.proofs.StandingExpressions.{exp_over_stands}
+use Rattle.hr_derives.proofs.StandingDeclarations.{decl_over_stands}
 use Rattle.hr_derives.proofs.laws.modules_stand.Goals as goal
 
 pub returns : goal.returns
