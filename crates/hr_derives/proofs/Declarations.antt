@@ -1,5 +1,5 @@
 -- Declarations and alternatives that are read take their own items.
-use Rattle.std.proofs.Common.{◌≡◌, ◌≢◌, ℕ, true, false, List, [], ◌∷◌, ◌++◌, length, Option, Some, None, sym, ap, ◌∙◌}
+use Rattle.std.proofs.Common.{◌≡◌, ◌≢◌, ℕ, true, false, List, [], ◌∷◌, ◌++◌, Option, Some, None, sym, ap, ◌∙◌}
 use Rattle.std.specs.List.{flat_map}
 use lib.Chars.{codes}
 use Rattle.hr_base.specs.declared.lexeme.Class.{Class}
@@ -18,7 +18,7 @@ use Rattle.hr_tree.specs.declared.expressions.Qualifier.{Qualifier}
 use Rattle.hr_tree.specs.declared.expressions.Alt.{Alt, out-Alt}
 use Rattle.hr_tree.specs.Names.{variable_items, operator_items}
 use Rattle.hr_tree.specs.Lists.{guarded_items, body_items, where_items}
-use Rattle.hr_tree.specs.Yields.{ty_items, pat_items, construction_items, decl_layer, exp_layer, qualifier_layer, alt_layer, exp_items, decl_items, alt_items}
+use Rattle.hr_tree.specs.Yields.{construction_items, decl_layer, exp_layer, qualifier_layer, alt_layer, exp_items, decl_items, alt_items}
 use Rattle.hr_tree.proofs.ExpressionYields.{decl_equation, decl_binding, alt_whole}
 use Rattle.hr_grammar.specs.Words.{IsOf, IsWord, IsEquals, IsArrow, IsBar, IsComma, IsDoubleColon}
 use Rattle.hr_grammar.specs.Spelled.{IsVariable, IsOwnOperator}

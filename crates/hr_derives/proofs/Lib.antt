@@ -1,6 +1,7 @@
 pub mod Blocks
 pub mod Declarations
 pub mod Endings
+pub mod EndingsAgree
 pub mod Expressions
 pub mod Grammatical
 pub mod GrammaticalBlocks
@@ -18,6 +19,7 @@ pub mod Standing
 pub mod StandingBlocks
 pub mod StandingDeclarations
 pub mod StandingExpressions
+pub mod StandingModules
 pub mod StandingPieces
 pub mod StandingTrees
 pub mod Stops

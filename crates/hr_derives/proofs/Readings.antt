@@ -6,7 +6,6 @@ use Rattle.hr_base.specs.declared.lexeme.Item.{Item}
 use Rattle.hr_rules.specs.declared.block.Placed.{Placed}
 use Rattle.hr_rules.specs.Blocks.{mark}
 use Rattle.hr_tree.specs.declared.lists.Listed.{Listed}
-use Rattle.hr_tree.specs.declared.lists.Operand.{Operand}
 use Rattle.hr_tree.specs.declared.names.Operator.{Operator}
 use Rattle.hr_tree.specs.Names.{maybe_item, maybe_operator, operator_items}
 use Rattle.hr_tree.specs.Lists.{listed_items}

@@ -1,17 +1,14 @@
 -- What a reading in the block at a column says of the stretch that it takes: its length, where its blocks lie, that
 -- they stand as the layout rule says, and that its lexemes stand right of the column.
-use Rattle.std.proofs.Common.{◌≡◌, ◌⊎◌, ◌≤◌, ◌<◌, ℕ, zero, suc, ◌+◌, ◌==◌, Bool, true, false, List, [], ◌∷◌, ◌++◌, map, length, drop, Option, Some, None, refl, sym, ap, ap₂, ◌∙◌, subst, inl, inr, arith}
+use Rattle.std.proofs.Common.{◌≡◌, ◌⊎◌, ◌≤◌, ◌<◌, ℕ, zero, suc, ◌+◌, Bool, true, false, List, [], ◌∷◌, ◌++◌, map, length, drop, refl, sym, ap, ap₂, ◌∙◌, subst, inl, inr, arith}
 use Rattle.hr_base.specs.declared.lexeme.Ending.{Ending}
 use Rattle.hr_base.specs.declared.lexeme.Item.{Item}
 use Rattle.hr_rules.specs.declared.block.Placed.{Placed}
-use Rattle.hr_rules.specs.Blocks.{mark, goes_on}
+use Rattle.hr_rules.specs.Blocks.{goes_on}
 use Rattle.hr_tree.specs.declared.lists.Layout.{Layout}
-use Rattle.hr_tree.specs.declared.lists.Listed.{Listed}
-use Rattle.hr_tree.specs.Names.{maybe_item, maybe_operator, operator_items}
-use Rattle.hr_tree.specs.declared.names.Operator.{Operator}
-use Rattle.hr_grammar.specs.Spans.{Span, Laid, bare, one as one_laid, ending_as, row, listed_laid}
+use Rattle.hr_grammar.specs.Spans.{Span, Laid, bare, one as one_laid, ending_as, row}
 use Rattle.hr_grammar.specs.Offside.{StandsWell}
-use Rattle.hr_derives.specs.Readings.{Reading, never, nothing, takes, ◌▷◌, given, one, take_all, spelled, maybe, there, in_turn, separated, inside, ends_as}
+use Rattle.hr_derives.specs.Readings.{Reading, never, nothing, takes, ◌▷◌, given, one, take_all, in_turn, inside, ends_as}
 use Rattle.hr_derives.proofs.Taken.{Takes}
 use Rattle.hr_derives.proofs.Stretches.{beside, bare_then, Has, has_either, has_first, has_second, is_empty_at, empty_first, empty_second, Text, lexemes, seen, Next, next_in, seen_plain, behind_seen, before_or_behind}
 
@@ -188,13 +185,16 @@ both_stand text n opened begun start a b vs us s t = record {
     first_one : (i : ℕ) → Right text n start (start + a.extent) i ⊎ ((i ≡ start) × (begun ≡ true)) → Right text n start (start + (a.extent + b.extent)) i ⊎ ((i ≡ start) × (begun ≡ true))
     first_one i (inl r) = inl (wider text n start (start + a.extent) start (start + (a.extent + b.extent)) i (omega arith) (omega arith) r)
     first_one i (inr x) = inr x
+
     second_one : (i : ℕ) → Right text n (start + a.extent) ((start + a.extent) + b.extent) i ⊎ ((i ≡ start + a.extent) × (still opened begun a.extent ≡ true))
         → Right text n start (start + (a.extent + b.extent)) i ⊎ ((i ≡ start) × (begun ≡ true))
     second_one i (inl r) = inl (wider text n (start + a.extent) ((start + a.extent) + b.extent) start (start + (a.extent + b.extent)) i (omega arith) (omega arith) r)
     second_one i (inr x) = inr (excused opened begun start a.extent i x.0 x.1)
+
     by : (i : ℕ) → start ≤ i → i < start + (a.extent + b.extent) → (i < start + a.extent) ⊎ (start + a.extent ≤ i) → Right text n start (start + (a.extent + b.extent)) i ⊎ ((i ≡ start) × (begun ≡ true))
     by i l h (inl c) = first_one i (s.each i l c)
     by i l h (inr c) = second_one i (t.each i c (omega arith))
+
     with_block : (span : Span) → Has (a.blocks n start) span ⊎ Has (b.blocks n (start + a.extent)) span → StandsWell text.spans (lexemes text) span
     with_block span (inl c) = s.blocks span c
     with_block span (inr c) = t.blocks span c
@@ -227,6 +227,7 @@ nothing_stands {text} {n} = record {
   where
     same_length : (u : ℕ) → u ≡ 0 + u
     same_length u = omega arith
+
     same_start : (i : ℕ) → i ≡ i + 0
     same_start i = omega arith
 
@@ -312,12 +313,15 @@ opens_stand text n begun start word b us w t = record {
   where
     sum_opens : (s f : ℕ) → (s + 1) + f ≡ s + (1 + f)
     sum_opens s f = omega arith
+
     the_word : (i : ℕ) → i ≡ start → Right text n start (start + 1) start ⊎ (begun ≡ true) → Right text n start (start + (1 + b.extent)) i ⊎ ((i ≡ start) × (begun ≡ true))
     the_word i same (inl r) = inl (subst (λ j. Right text n start (start + (1 + b.extent)) j) (sym same) (wider text n start (start + 1) start (start + (1 + b.extent)) start (omega arith) (omega arith) r))
     the_word i same (inr x) = inr (same, x)
+
     the_rest : (i : ℕ) → Right text n (start + 1) ((start + 1) + b.extent) i ⊎ ((i ≡ start + 1) × (false ≡ true)) → Right text n start (start + (1 + b.extent)) i ⊎ ((i ≡ start) × (begun ≡ true))
     the_rest i (inl r) = inl (wider text n (start + 1) ((start + 1) + b.extent) start (start + (1 + b.extent)) i (omega arith) (omega arith) r)
     the_rest i (inr x) = let f = x.1 in let no : ⊥ = cc in elim no [ ]
+
     by : (i : ℕ) → start ≤ i → i < start + (1 + b.extent) → (i < start + 1) ⊎ (start + 1 ≤ i) → Right text n start (start + (1 + b.extent)) i ⊎ ((i ≡ start) × (begun ≡ true))
     by i l h (inl c) = the_word i (omega arith) w
     by i l h (inr c) = the_rest i (t.each i c (omega arith))

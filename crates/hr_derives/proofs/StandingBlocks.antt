@@ -1,5 +1,5 @@
 -- A block that is read, if its parts stand: the four points of the layout rule.
-use Rattle.std.proofs.Common.{◌≡◌, ◌≢◌, ◌⊎◌, ◌≤◌, ◌<◌, ℕ, zero, suc, ◌+◌, ◌==◌, nat_lt, nat_le, if◌then◌else◌, not, ◌||◌, ◌&&◌, Bool, true, false, List, [], ◌∷◌, ◌++◌, map, length, drop, refl, sym, ap, ap₂, ◌∙◌, subst, inl, inr, arith, eq-eqb, le-leb, lt-ltb, ltb-true, ltb-false, leb-true, drop-drop, append-nil}
+use Rattle.std.proofs.Common.{◌≡◌, ◌⊎◌, ◌≤◌, ◌<◌, ℕ, zero, suc, ◌+◌, ◌==◌, nat_lt, nat_le, if◌then◌else◌, not, ◌||◌, ◌&&◌, Bool, true, false, List, [], ◌∷◌, map, length, drop, refl, sym, ap, ap₂, ◌∙◌, subst, inl, inr, arith, eq-eqb, le-leb, lt-ltb, ltb-true, ltb-false, leb-true, drop-drop, append-nil}
 use Rattle.std.specs.List.{list_any}
 use Rattle.hr_base.specs.declared.lexeme.Ending.{Ending}
 use Rattle.hr_base.specs.declared.lexeme.Item.{Item}
@@ -12,12 +12,12 @@ use Rattle.hr_tree.specs.declared.lists.Layout.{Layout}
 use Rattle.hr_tree.specs.declared.lists.Piece.{Piece}
 use Rattle.hr_grammar.specs.Words.{IsLeftBrace, IsRightBrace, IsSemicolon}
 use Rattle.hr_grammar.specs.Nodes.{DeclPlace}
-use Rattle.hr_grammar.specs.Spans.{Span, Stretch, Laid, bare, one as one_laid, row, piece_laid, stretch_of, column_inside, last_ending, block_laid}
+use Rattle.hr_grammar.specs.Spans.{Span, Laid, one as one_laid, stretch_of, last_ending, block_laid}
 use Rattle.hr_grammar.specs.Offside.{column_of, placed_among, begins, is_braced, StandsRight, AllStandRight, IsOffside, StandsWell}
-use Rattle.hr_derives.specs.Readings.{Reading, one}
+use Rattle.hr_derives.specs.Readings.{Reading}
 use Rattle.hr_derives.specs.Blocks.{Parts, part_then, pieces_reading, braced_reading, implicit_reading, layout_reading, block_reading}
 use Rattle.hr_derives.proofs.Stretches.{beside, Has, has_first, is_empty_at, none_empty, Text, lexemes, mark_or, seen, Next, lexemes_at, seen_plain, seen_empty}
-use Rattle.hr_derives.proofs.Standing.{GoesAt, Braced, Right, Within, still, still_none, none_between, Known, Stands, Standing, nothing_stands, then_stands, given_stands, ending_stands, one_stands}
+use Rattle.hr_derives.proofs.Standing.{GoesAt, Braced, Right, Within, still_none, none_between, Known, Stands, Standing, nothing_stands, then_stands, given_stands, ending_stands, one_stands}
 use Rattle.hr_derives.proofs.StandingPieces.{mark_length, laids, pieces_laid, stretches, PartsStand, pieces_move, pieces_within, AtLeast, PiecesStanding, pieces_stand, Agree, pieces_end}
 
 abbrev pub block_by : {T : Type 0} → (T → Laid) → Block T → Block Laid
@@ -122,9 +122,10 @@ all_right : (text : Text) (block : Span) (n k i : ℕ) (rest : List Placed) → 
     → ((j : ℕ) → i ≤ j → j < i + k → Next (StandsRight text.spans block n j) (drop j (lexemes text))) → AllStandRight text.spans block n i k rest
 all_right text block n zero i rest e each = tt
 all_right text block n (suc k) i [] e each = tt
-all_right text block n (suc k) i (next ∷ rest) e each =
-    (subst (Next (StandsRight text.spans block n i)) (sym e) (each i (omega arith) (omega arith)),
-    all_right text block n k (suc i) rest (ap (λ (l : List Placed). drop 1 l) e ∙ drop-drop 1 i (lexemes text) ∙ ap (λ j. drop j (lexemes text)) (one_more i)) (λ j l h. each j (omega arith) (omega arith)))
+all_right text block n (suc k) i (next ∷ rest) e each = (
+  subst (Next (StandsRight text.spans block n i)) (sym e) (each i (omega arith) (omega arith)),
+  all_right text block n k (suc i) rest (ap (λ (l : List Placed). drop 1 l) e ∙ drop-drop 1 i (lexemes text) ∙ ap (λ j. drop j (lexemes text)) (one_more i)) (λ j l h. each j (omega arith) (omega arith)),
+)
   where
     one_more : (k : ℕ) → k + 1 ≡ suc k
     one_more k = omega arith
@@ -429,7 +430,7 @@ implicit_stands : {T : Type 0} {text : Text} {of : T → Laid} {parts : Parts T}
 implicit_stands {text = text} {of = of} p kind m place col pieces ts us ends (inl r) begun start k e =
     let none : laids of pieces ≡ [] = ap (λ (ps : List (Piece _)). laids of ps) r.1 in
     subst (λ l. Known text true start (block_laid kind (record { layout = Layout.Implicit col; pieces = l })).extent ((block_laid kind (record { layout = Layout.Implicit col; pieces = l })).blocks m start)
-        → Standing text m true begun start (block_laid kind (record { layout = Layout.Implicit col; pieces = l })) us) (sym none)
+    → Standing text m true begun start (block_laid kind (record { layout = Layout.Implicit col; pieces = l })) us) (sym none)
     (λ known. empty_there text kind m col ts us r.0 r.2 r.3 begun start known e) k
 implicit_stands p kind m place col pieces ts us ends (inr r) begun start k e =
     implicit_there p kind m place col pieces ts us r.0 r.1 (ends col ts r.1) begun start k e

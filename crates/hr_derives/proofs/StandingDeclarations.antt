@@ -1,5 +1,5 @@
 -- Declarations and alternatives that are read stand.
-use Rattle.std.proofs.Common.{◌≡◌, ◌≢◌, ℕ, true, false, List, [], ◌∷◌, length, map, Option, Some, None, refl, sym, ap, ◌∙◌}
+use Rattle.std.proofs.Common.{◌≡◌, ◌≢◌, ℕ, true, false, List, [], ◌∷◌, Option, Some, None, refl, sym, ap, ◌∙◌}
 use lib.Chars.{codes}
 use Rattle.hr_base.specs.declared.lexeme.Class.{Class}
 use Rattle.hr_base.specs.declared.lexeme.Ending.{Ending}
@@ -25,7 +25,7 @@ use Rattle.hr_grammar.specs.Words.{IsOf, IsWord, IsEquals, IsArrow, IsBar, IsCom
 use Rattle.hr_grammar.specs.Spelled.{IsVariable, IsOwnOperator}
 use Rattle.hr_grammar.specs.Nodes.{TyPlace, PatPlace, ExpPlace, DeclPlace}
 use Rattle.hr_grammar.specs.Declarations.{fixity_words, IsDigit, takes_import, takes_top, takes_local}
-use Rattle.hr_grammar.specs.Spans.{Laid, bare, one as one_laid, ending_as, row, part_ending, guarded_laid, block_laid, right_side_laid, decl_laid, exp_laid, qualifier_laid, alt_laid}
+use Rattle.hr_grammar.specs.Spans.{Laid, bare, one as one_laid, ending_as, part_ending, guarded_laid, block_laid, decl_laid, exp_laid, qualifier_laid, alt_laid}
 use Rattle.hr_derives.specs.Derivations.{Derivations}
 use Rattle.hr_derives.specs.Declarations.{construction_reading, guarded_reading, guards_reading, body_reading, right_side_reading, decl_reading, decl_over, alt_over}
 use Rattle.hr_derives.proofs.Taken.{AllTake, separated_takes, spelled_takes, maybe_one_takes}
@@ -33,9 +33,8 @@ use Rattle.hr_derives.proofs.Heads.{type_head_takes, construction_takes, new_con
 use Rattle.hr_derives.proofs.Imports.{import_takes}
 use Rattle.hr_derives.proofs.Stretches.{beside, Text}
 use Rattle.hr_derives.proofs.Standing.{Stands, same_stands, never_stands, given_stands, ending_stands, inside_stands, ends_as_stands, then_stands, one_stands, taken_stands, opens_stands}
-use Rattle.hr_derives.proofs.StandingPieces.{laids}
 use Rattle.hr_derives.proofs.StandingBlocks.{block_by}
-use Rattle.hr_derives.proofs.StandingTrees.{laid_exp, laid_decl, laid_qualifier, laid_alt, AllStand, guards_laid, guarded_by, pieces_turned, through, alone_stands}
+use Rattle.hr_derives.proofs.StandingTrees.{laid_exp, laid_decl, laid_alt, AllStand, guards_laid, guarded_by, pieces_turned, alone_stands}
 
 -- ---- right sides
 abbrev pub body_by : Body Exp → Laid
@@ -51,7 +50,7 @@ abbrev where_by : Laid → Where Decl → List (Piece Laid) → Laid
 where_by body locals pieces =
     ending_as Ending.WhereBlock (beside body (beside (one_laid locals.word) (block_laid BlockKind.Declarations (record { layout = locals.block.layout; pieces = pieces }))))
 
-decl_equation : (left : LeftSide) (body : Body Exp) (locals : Option (Where Decl)) → laid_decl (roll-Decl (Decl-F.Equation left body locals)) ≡ beside (bare (left_side_items left)) (right_side_by body locals)
+pub decl_equation : (left : LeftSide) (body : Body Exp) (locals : Option (Where Decl)) → laid_decl (roll-Decl (Decl-F.Equation left body locals)) ≡ beside (bare (left_side_items left)) (right_side_by body locals)
 decl_equation left (Body.Plain mark part) None = fold-roll-Decl Laid Laid Laid Laid decl_laid exp_laid qualifier_laid alt_laid (Decl-F.Equation left (Body.Plain mark part) None)
 decl_equation left (Body.Plain mark part) (Some locals) =
     fold-roll-Decl Laid Laid Laid Laid decl_laid exp_laid qualifier_laid alt_laid (Decl-F.Equation left (Body.Plain mark part) (Some locals))
@@ -61,7 +60,7 @@ decl_equation left (Body.Guarded list) (Some locals) =
     fold-roll-Decl Laid Laid Laid Laid decl_laid exp_laid qualifier_laid alt_laid (Decl-F.Equation left (Body.Guarded list) (Some locals))
     ∙ ap (λ ps. beside (bare (left_side_items left)) (where_by (body_by (Body.Guarded list)) locals ps)) (pieces_turned laid_decl _ (λ item. refl) (λ decl. refl) locals.block.pieces)
 
-decl_binding : (pattern : Pat) (body : Body Exp) (locals : Option (Where Decl)) → laid_decl (roll-Decl (Decl-F.Binding pattern body locals)) ≡ beside (bare (pat_items pattern)) (right_side_by body locals)
+pub decl_binding : (pattern : Pat) (body : Body Exp) (locals : Option (Where Decl)) → laid_decl (roll-Decl (Decl-F.Binding pattern body locals)) ≡ beside (bare (pat_items pattern)) (right_side_by body locals)
 decl_binding pattern (Body.Plain mark part) None = fold-roll-Decl Laid Laid Laid Laid decl_laid exp_laid qualifier_laid alt_laid (Decl-F.Binding pattern (Body.Plain mark part) None)
 decl_binding pattern (Body.Plain mark part) (Some locals) =
     fold-roll-Decl Laid Laid Laid Laid decl_laid exp_laid qualifier_laid alt_laid (Decl-F.Binding pattern (Body.Plain mark part) (Some locals))
@@ -82,7 +81,7 @@ alt_rolled pattern (Body.Guarded list) (Some locals) =
     fold-roll-Alt Laid Laid Laid Laid decl_laid exp_laid qualifier_laid alt_laid (record { pattern = pattern; body = Body.Guarded list; locals = Some locals })
     ∙ ap (λ ps. beside (bare (pat_items pattern)) (where_by (body_by (Body.Guarded list)) locals ps)) (pieces_turned laid_decl _ (λ item. refl) (λ decl. refl) locals.block.pieces)
 
-alt_whole : (alt : Alt) → laid_alt alt ≡ beside (bare (pat_items (out-Alt alt).pattern)) (right_side_by (out-Alt alt).body (out-Alt alt).locals)
+pub alt_whole : (alt : Alt) → laid_alt alt ≡ beside (bare (pat_items (out-Alt alt).pattern)) (right_side_by (out-Alt alt).body (out-Alt alt).locals)
 alt_whole alt = ap laid_alt (sym (roll-out-Alt alt)) ∙ alt_rolled (out-Alt alt).pattern (out-Alt alt).body (out-Alt alt).locals
 
 guarded_stands : (text : Text) (below : Derivations) → AllStand text below → (n : ℕ) (IsMark : Item → Type 0) (guarded : Guarded Exp) (ending : Ending)

@@ -1,10 +1,11 @@
 -- An expression that is read stands.
-use Rattle.std.proofs.Common.{◌≡◌, ◌≢◌, ℕ, Bool, true, false, List, [], ◌∷◌, length, map, Option, None, refl, sym, ap, ◌∙◌, subst}
+use Rattle.std.proofs.Common.{◌≡◌, ◌≢◌, ℕ, Bool, true, false, List, [], ◌∷◌, length, Option, refl, sym, ap, ◌∙◌, subst}
 use lib.Chars.{codes}
 use Rattle.hr_base.specs.declared.lexeme.Ending.{Ending}
 use Rattle.hr_base.specs.declared.lexeme.Item.{Item}
 use Rattle.hr_rules.specs.declared.block.BlockKind.{BlockKind}
 use Rattle.hr_tree.specs.declared.lists.Operand.{Operand}
+use Rattle.hr_tree.specs.declared.lists.Block.{Block}
 use Rattle.hr_tree.specs.declared.names.Operator.{Operator}
 use Rattle.hr_tree.specs.declared.expressions.Exp.{Exp, out-Exp, roll-Exp}
 use Rattle.hr_tree.specs.declared.expressions.Decl.{Decl}
@@ -14,10 +15,10 @@ use Rattle.hr_tree.specs.declared.expressions.Decl.TheOpen.{Exp-F, Qualifier-F}
 use Rattle.hr_tree.specs.declared.expressions.Decl.TheFolds.{fold-roll-Exp, fold-roll-Qualifier}
 use Rattle.hr_tree.specs.declared.expressions.Decl.TheViews.{roll-out-Exp, roll-out-Qualifier}
 use Rattle.hr_tree.specs.Names.{maybe_operator, variable_items, constructor_items, operator_items}
-use Rattle.hr_tree.specs.Yields.{ty_items, pat_items}
+use Rattle.hr_tree.specs.Yields.{pat_items}
 use Rattle.hr_grammar.specs.Words.{IsWord, IsReserved, IsLiteral, IsMinus, IsLeftParen, IsRightParen, IsLeftSquare, IsRightSquare, IsComma, IsBar, IsDots, IsArrow, IsBackArrow, IsDoubleColon}
 use Rattle.hr_grammar.specs.Spelled.{IsNamedVariable, IsConstructor, IsOperator, IsNoMinus, AreParts}
-use Rattle.hr_grammar.specs.Nodes.{TyPlace, PatPlace, ExpPlace, DeclPlace}
+use Rattle.hr_grammar.specs.Nodes.{TyPlace, PatPlace, ExpPlace}
 use Rattle.hr_grammar.specs.Patterns.{HasTwo}
 use Rattle.hr_grammar.specs.Expressions.{takes_operand, takes_open, takes_infix, takes_annotation, last_operand, IsSequence}
 use Rattle.hr_grammar.specs.Spans.{Laid, one as one_laid, ending_as, block_laid, decl_laid, exp_laid, qualifier_laid, alt_laid}
@@ -27,6 +28,7 @@ use Rattle.hr_derives.specs.Expressions.{applied, closed, annotated, exp_operand
 use Rattle.hr_derives.proofs.Taken.{AllTake, in_turn_takes, spelled_takes, maybe_one_takes, operator_there_takes}
 use Rattle.hr_derives.proofs.Stretches.{beside, Text}
 use Rattle.hr_derives.proofs.Standing.{Stands, same_stands, never_stands, given_stands, ending_stands, inside_stands, then_stands, nothing_stands, one_stands, all_stand, taken_stands, in_turn_stands, opens_stands}
+use Rattle.hr_derives.proofs.StandingBlocks.{block_by}
 use Rattle.hr_derives.proofs.StandingTrees.{laid_exp, laid_decl, laid_qualifier, laid_alt, AllStand, operands_laid, pieces_turned, through, separated_stands}
 
 operands_stand : (text : Text) (below : Derivations) → AllStand text below → (n : ℕ) (free : Bool) (last : ExpPlace) (operands : List (Operand Exp)) (ending : Ending)
@@ -90,6 +92,13 @@ atom_stands text below take each n (Exp-F.If word test then_word first else_word
 atom_stands text below take each n (Exp-F.Case word part of_word block) = never_stands
 atom_stands text below take each n (Exp-F.Fields part left fields right) = never_stands
 
+pub exp_let : (word : Item) (block : Block Decl) (in_word : Item) (body : Exp)
+    → laid_exp (roll-Exp (Exp-F.Let word block in_word body)) ≡ beside (one_laid word) (beside (block_laid BlockKind.Declarations (block_by laid_decl block)) (beside (one_laid in_word) (laid_exp body)))
+exp_let word block in_word body =
+    fold-roll-Exp Laid Laid Laid Laid decl_laid exp_laid qualifier_laid alt_laid (Exp-F.Let word block in_word body)
+    ∙ ap (λ ps. beside (one_laid word) (beside (block_laid BlockKind.Declarations (record { layout = block.layout; pieces = ps })) (beside (one_laid in_word) (laid_exp body))))
+    (pieces_turned laid_decl _ (λ item. refl) (λ part. refl) block.pieces)
+
 -- one level, where trees on the level below stand
 exp_stands : (text : Text) (below : Derivations) → AllTake below → AllStand text below → (n : ℕ) (free : Bool) (place : ExpPlace) (layer : Exp-F Decl Exp Qualifier Alt) (ending : Ending)
     → Stands text n false (laid_exp (roll-Exp layer)) (exp_reading below n free place layer ending)
@@ -108,9 +117,7 @@ exp_stands text below take each n free place (Exp-F.Lambda mark patterns arrow b
     (given_stands ((takes_open place ≡ true) × (patterns ≢ []))
     (then_stands (one_stands (IsReserved (codes "\\")) mark) (then_stands (taken_stands (in_turn_takes pat_items _ (take.pat n PatPlace.Atomic) patterns)) (then_stands (one_stands IsArrow arrow) (each.exp n free ExpPlace.Whole body ending)))))
 exp_stands text below take each n free place (Exp-F.Let word block in_word body) ending =
-    same_stands (sym (fold-roll-Exp Laid Laid Laid Laid decl_laid exp_laid qualifier_laid alt_laid (Exp-F.Let word block in_word body)
-    ∙ ap (λ ps. beside (one_laid word) (beside (block_laid BlockKind.Declarations (record { layout = block.layout; pieces = ps })) (beside (one_laid in_word) (laid_exp body))))
-    (pieces_turned laid_decl _ (λ item. refl) (λ part. refl) block.pieces)))
+    same_stands (sym (exp_let word block in_word body))
     (given_stands (takes_open place ≡ true)
     (opens_stands (IsWord (codes "let")) word (then_stands (each.declarations n block) (then_stands (one_stands (IsWord (codes "in")) in_word) (each.exp n free ExpPlace.Whole body ending)))))
 exp_stands text below take each n free place (Exp-F.If word test then_word first else_word second) ending =

@@ -1,5 +1,5 @@
 -- The pieces of a block without braces: points 2 and 3 of the layout rule, and the ending of the last one.
-use Rattle.std.proofs.Common.{◌≡◌, ◌≢◌, ◌⊎◌, ◌≤◌, ◌<◌, ℕ, zero, suc, ◌+◌, ◌==◌, not, ◌||◌, ◌&&◌, Bool, true, false, List, [], ◌∷◌, ◌++◌, map, length, drop, refl, sym, ap, ap₂, ◌∙◌, subst, inl, inr, arith, eq-eqb, drop-drop}
+use Rattle.std.proofs.Common.{◌≡◌, ◌≢◌, ◌⊎◌, ◌≤◌, ◌<◌, ℕ, zero, suc, ◌+◌, ◌==◌, ◌||◌, ◌&&◌, Bool, true, false, List, [], ◌∷◌, map, length, drop, refl, sym, ap, ◌∙◌, subst, inl, inr, arith, eq-eqb, drop-drop}
 use Rattle.std.specs.List.{list_any}
 use Rattle.std.proofs.lemmas.Bool.{not-true}
 use Rattle.hr_base.specs.declared.lexeme.Ending.{Ending}
@@ -10,9 +10,8 @@ use Rattle.hr_rules.specs.Blocks.{mark, left_of, at_margin, starts_part, ends_bl
 use Rattle.hr_rules.proofs.Margins.{margins}
 use Rattle.hr_tree.specs.declared.lists.Piece.{Piece}
 use Rattle.hr_grammar.specs.Nodes.{DeclPlace}
-use Rattle.hr_grammar.specs.Spans.{Span, Stretch, Laid, bare, one as one_laid, row, piece_laid, stretch_of, last_ending}
+use Rattle.hr_grammar.specs.Spans.{Span, Stretch, Laid, bare, row, piece_laid, stretch_of, last_ending}
 use Rattle.hr_grammar.specs.Offside.{IsAtMargin, PartsBegin, begins, placed_among, StandsWell}
-use Rattle.hr_derives.specs.Readings.{Reading}
 use Rattle.hr_derives.specs.Blocks.{Parts, takes_semicolon, pieces_reading}
 use Rattle.hr_derives.proofs.Stops.{starts_at}
 use Rattle.hr_derives.proofs.Stretches.{beside, Has, has_either, is_empty_at, Text, lexemes, mark_or, seen, Next, lexemes_at, next_in, seen_plain, seen_begun, before_or_behind}
@@ -197,10 +196,12 @@ part_standing text n start part laid pieces vs us l s t p = record {
         → Right text n start (start + (part.extent + laid.extent)) i ⊎ (AtLeast text n i × (list_any (λ s. s == i) (start ∷ begins (start + part.extent) pieces) ≡ true))
     in_part i (inl r) = inl (wider text n start (start + part.extent) start (start + (part.extent + laid.extent)) i (omega arith) (omega arith) r)
     in_part i (inr x) = inr (begins_here text n start (begins (start + part.extent) pieces) i x.0 l)
+
     by : (i : ℕ) → start ≤ i → i < start + (part.extent + laid.extent) → (i < start + part.extent) ⊎ (start + part.extent ≤ i)
         → Right text n start (start + (part.extent + laid.extent)) i ⊎ (AtLeast text n i × (list_any (λ s. s == i) (start ∷ begins (start + part.extent) pieces) ≡ true))
     by i a h (inl c) = in_part i (s.each i a c)
     by i a h (inr c) = later text n start part.extent laid.extent pieces i (t.each i c (omega arith))
+
     with_block : (span : Span) → Has (part.blocks n start) span ⊎ Has (laid.blocks n (start + part.extent)) span → StandsWell text.spans (lexemes text) span
     with_block span (inl c) = s.blocks span c
     with_block span (inr c) = t.blocks span c

@@ -1,5 +1,5 @@
 -- The stretches of trees, and lists of trees that stand where each of them does.
-use Rattle.std.proofs.Common.{◌≡◌, ℕ, Bool, true, false, List, [], ◌∷◌, length, map, Option, Some, None, refl, sym, ap, ap₂, ◌∙◌, subst}
+use Rattle.std.proofs.Common.{◌≡◌, ℕ, Bool, true, false, List, [], ◌∷◌, map, Option, refl, sym, ap₂, subst}
 use Rattle.hr_base.specs.declared.lexeme.Ending.{Ending}
 use Rattle.hr_base.specs.declared.lexeme.Item.{Item}
 use Rattle.hr_rules.specs.declared.block.BlockKind.{BlockKind}
@@ -14,15 +14,15 @@ use Rattle.hr_tree.specs.declared.expressions.Decl.{Decl}
 use Rattle.hr_tree.specs.declared.expressions.Alt.{Alt}
 use Rattle.hr_tree.specs.declared.expressions.Qualifier.{Qualifier}
 use Rattle.hr_tree.specs.declared.expressions.Decl.TheFolds.{fold-Decl, fold-Exp, fold-Qualifier, fold-Alt}
-use Rattle.hr_tree.specs.Names.{maybe_item, maybe_operator}
+use Rattle.hr_tree.specs.Names.{maybe_item}
 use Rattle.hr_grammar.specs.Nodes.{ExpPlace, DeclPlace}
 use Rattle.hr_grammar.specs.Spans.{Laid, bare, row, listed_laid, operand_laid, guarded_laid, block_laid, decl_laid, exp_laid, qualifier_laid, alt_laid}
-use Rattle.hr_derives.specs.Readings.{Reading, ◌▷◌, nothing, one, take_all, there, separated}
+use Rattle.hr_derives.specs.Readings.{Reading, one, take_all, separated}
 use Rattle.hr_derives.specs.Derivations.{Derivations}
-use Rattle.hr_derives.proofs.Taken.{Takes, one_there_takes}
+use Rattle.hr_derives.proofs.Taken.{one_there_takes}
 use Rattle.hr_derives.proofs.Stretches.{beside, Text}
-use Rattle.hr_derives.proofs.Standing.{Stands, nothing_stands, then_stands, given_stands, taken_stands, all_stand}
-use Rattle.hr_derives.proofs.StandingPieces.{piece_by, laids}
+use Rattle.hr_derives.proofs.Standing.{Stands, nothing_stands, then_stands, taken_stands, all_stand}
+use Rattle.hr_derives.proofs.StandingPieces.{laids}
 use Rattle.hr_derives.proofs.StandingBlocks.{block_by}
 
 abbrev pub laid_exp : Exp → Laid

@@ -4,10 +4,9 @@ use Rattle.std.specs.List.{AllByRecursion, list_any}
 use Rattle.hr_base.specs.declared.lexeme.Ending.{Ending}
 use Rattle.hr_base.specs.declared.lexeme.Item.{Item}
 use Rattle.hr_rules.specs.declared.block.Placed.{Placed}
-use Rattle.hr_rules.specs.Blocks.{mark, goes_on, left_of}
-use Rattle.hr_tree.specs.declared.lists.Layout.{Layout}
-use Rattle.hr_grammar.specs.Spans.{Span, Laid, bare, one, ending_as, row, ◌▷◌}
-use Rattle.hr_grammar.specs.Offside.{is_left_empty, placed_among, StandsWell}
+use Rattle.hr_rules.specs.Blocks.{mark}
+use Rattle.hr_grammar.specs.Spans.{Span, Laid, bare, one, ◌▷◌}
+use Rattle.hr_grammar.specs.Offside.{is_left_empty, placed_among}
 
 -- one stretch behind another
 abbrev pub beside : Laid → Laid → Laid
@@ -19,6 +18,7 @@ bare_then item items = (λ j. record { extent = one_more (length items) j; endin
   where
     one_more : (k : ℕ) → 1 + k ≡ suc k
     one_more k = omega arith
+
     either_way : (b : Bool) → (if b then Ending.Applied true false else Ending.Applied true false) ≡ Ending.Applied true false
     either_way true = refl
     either_way false = refl

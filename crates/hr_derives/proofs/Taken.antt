@@ -13,7 +13,7 @@ use Rattle.hr_tree.specs.Names.{maybe_item, maybe_operator, operator_items}
 use Rattle.hr_tree.specs.Lists.{listed_items}
 use Rattle.hr_tree.specs.Yields.{ty_items, pat_items}
 use Rattle.hr_grammar.specs.Nodes.{TyPlace, PatPlace}
-use Rattle.hr_derives.specs.Readings.{Reading, never, nothing, takes, ◌▷◌, given, one, take_all, spelled, maybe, there, in_turn, separated}
+use Rattle.hr_derives.specs.Readings.{Reading, never, nothing, ◌▷◌, given, one, take_all, spelled, maybe, there, in_turn, separated}
 use Rattle.hr_derives.specs.Derivations.{Derivations}
 use Rattle.hr_derives.specs.Laws.{Gives}
 use Rattle.hr_derives.proofs.Readings.{append_assoc, append_nothing, take_all_gives, alone}

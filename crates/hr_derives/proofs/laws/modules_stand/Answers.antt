@@ -1,5 +1,5 @@
-use Rattle.hr_derives.proofs.StandingDeclarations.{decl_over_stands}
+use Rattle.hr_derives.proofs.StandingModules.{modules_stand_lem}
 use Rattle.hr_derives.proofs.laws.modules_stand.Goals as goal
 
 pub returns : goal.returns
-returns c = ?
+returns c = modules_stand_lem
