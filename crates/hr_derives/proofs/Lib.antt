@@ -21,6 +21,7 @@ pub mod StandingDeclarations
 pub mod StandingExpressions
 pub mod StandingModules
 pub mod StandingPieces
+pub mod StandingPoints
 pub mod StandingTrees
 pub mod Stops
 pub mod Stretches

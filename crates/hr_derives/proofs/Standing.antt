@@ -1,6 +1,6 @@
 -- What a reading in the block at a column says of the stretch that it takes: its length, where its blocks lie, that
 -- they stand as the layout rule says, and that its lexemes stand right of the column.
-use Rattle.std.proofs.Common.{◌≡◌, ◌⊎◌, ◌≤◌, ◌<◌, ℕ, zero, suc, ◌+◌, Bool, true, false, List, [], ◌∷◌, ◌++◌, map, length, drop, refl, sym, ap, ap₂, ◌∙◌, subst, inl, inr, arith}
+use Rattle.std.proofs.Common.{◌≡◌, ◌⊎◌, ◌≤◌, ◌<◌, ℕ, zero, suc, ◌+◌, Bool, true, false, List, [], ◌∷◌, ◌++◌, map, length, drop, refl, sym, ap, ap₂, ◌∙◌, subst, inl, inr, zero-add, add-zero, suc-add, one-add, add_assoc, arith}
 use Rattle.hr_base.specs.declared.lexeme.Ending.{Ending}
 use Rattle.hr_base.specs.declared.lexeme.Item.{Item}
 use Rattle.hr_rules.specs.declared.block.Placed.{Placed}
@@ -145,22 +145,13 @@ still_none (suc f) = refl
 
 still_both : (opened begun : Bool) (e f : ℕ) → still false (still opened begun e) f ≡ still opened begun (e + f)
 still_both true begun e f = still_none f
-still_both false begun zero f = ap (still false begun) (none_before f)
-  where
-    none_before : (k : ℕ) → k ≡ zero + k
-    none_before k = omega arith
-still_both false begun (suc e) f = still_none f ∙ sym (ap (still false begun) (one_before e f))
-  where
-    one_before : (a b : ℕ) → suc a + b ≡ suc (a + b)
-    one_before a b = omega arith
+still_both false begun zero f = ap (still false begun) (sym (zero-add f))
+still_both false begun (suc e) f = still_none f ∙ sym (ap (still false begun) (suc-add e f))
 
 excused : (opened begun : Bool) (start e i : ℕ) → i ≡ start + e → still opened begun e ≡ true → (i ≡ start) × (begun ≡ true)
 excused true begun start e i same b = let no : ⊥ = cc in elim no [ ]
 excused false begun start zero i same b = (omega arith, b)
 excused false begun start (suc e) i same b = let no : ⊥ = cc in elim no [ ]
-
-pub sum_after : (start e f : ℕ) → (start + e) + f ≡ start + (e + f)
-sum_after start e f = omega arith
 
 pub sum_moves : (e f t v u : ℕ) → t ≡ e + v → v ≡ f + u → t ≡ (e + f) + u
 sum_moves e f t v u g h = omega arith
@@ -177,7 +168,7 @@ both_within n opened a b start g h span has = by (has_either (a.blocks n start) 
 both_stand : (text : Text) (n : ℕ) (opened begun : Bool) (start : ℕ) (a b : Laid) (vs us : List Placed) → Standing text n opened begun start a vs
     → Standing text n false (still opened begun a.extent) (start + a.extent) b us → Standing text n opened begun start (beside a b) us
 both_stand text n opened begun start a b vs us s t = record {
-  after = t.after ∙ ap₂ (λ (m : Bool) (k : ℕ). seen text m k) (still_both opened begun a.extent b.extent) (sum_after start a.extent b.extent);
+  after = t.after ∙ ap₂ (λ (m : Bool) (k : ℕ). seen text m k) (still_both opened begun a.extent b.extent) (add_assoc start a.extent b.extent);
   each = λ i l h. by i l h (before_or_behind i (start + a.extent));
   blocks = λ span has. with_block span (has_either (a.blocks n start) (b.blocks n (start + a.extent)) span has);
 }
@@ -216,10 +207,10 @@ none_between start i l h = omega arith
 
 pub nothing_stands : {text : Text} {n : ℕ} → Stands text n false (bare []) nothing
 nothing_stands {text} {n} = record {
-  moves = λ ts us r. ap length (sym r) ∙ same_length (length us);
+  moves = λ ts us r. ap length (sym r) ∙ sym (zero-add (length us));
   within = λ ts us r start span has. elim has [ ];
   stands = λ ts us r begun start k e. record {
-    after = r ∙ e ∙ ap (λ (i : ℕ). seen text begun i) (same_start start);
+    after = r ∙ e ∙ ap (λ (i : ℕ). seen text begun i) (sym (add-zero start));
     each = λ i l h. elim (none_between start i l h) [ ];
     blocks = λ span has. elim has [ ];
   };
@@ -245,10 +236,7 @@ took_goes text n item start (next ∷ ts) us r e = next_in (λ x. goes_on n x �
 
 took_moves : (n : ℕ) (item : Item) (ts us : List Placed) → takes n item ts us → length ts ≡ 1 + length us
 took_moves n item [] us r = elim r [ ]
-took_moves n item (next ∷ ts) us r = ap (λ (l : List Placed). suc (length l)) (sym r.2) ∙ one_before (length us)
-  where
-    one_before : (u : ℕ) → suc u ≡ 1 + u
-    one_before u = omega arith
+took_moves n item (next ∷ ts) us r = ap (λ (l : List Placed). suc (length l)) (sym r.2) ∙ sym (one-add (length us))
 
 pub takes_stands : {text : Text} {n : ℕ} (item : Item) → Stands text n false (one_laid item) (takes n item)
 takes_stands {text} {n} item = record {
@@ -294,26 +282,17 @@ opens_known {start = start} k = record { marks = λ i l h. k.marks i (omega arit
 opens_within : {start f : ℕ} {span : Span} → Within true (start + 1) f span → Within false start (1 + f) span
 opens_within w = record { behind = omega (arith, w.behind); ends = omega (arith, w.ends) }
 
-opens_moves : (f t v u : ℕ) → t ≡ 1 + v → v ≡ f + u → t ≡ (1 + f) + u
-opens_moves f t v u g h = omega arith
-
 still_opens : (begun : Bool) (f : ℕ) → still false begun (1 + f) ≡ false
-still_opens begun f = ap (still false begun) (one_before f)
-  where
-    one_before : (u : ℕ) → 1 + u ≡ suc u
-    one_before u = omega arith
+still_opens begun f = ap (still false begun) (one-add f)
 
 opens_stand : (text : Text) (n : ℕ) (begun : Bool) (start : ℕ) (word : Item) (b : Laid) (us : List Placed) → Right text n start (start + 1) start ⊎ (begun ≡ true)
     → Standing text n true false (start + 1) b us → Standing text n false begun start (beside (one_laid word) b) us
 opens_stand text n begun start word b us w t = record {
-  after = t.after ∙ ap₂ (λ (m : Bool) (k : ℕ). seen text m k) (sym (still_opens begun b.extent)) (sum_opens start b.extent);
+  after = t.after ∙ ap₂ (λ (m : Bool) (k : ℕ). seen text m k) (sym (still_opens begun b.extent)) (add_assoc start 1 b.extent);
   each = λ i l h. by i l h (before_or_behind i (start + 1));
   blocks = t.blocks;
 }
   where
-    sum_opens : (s f : ℕ) → (s + 1) + f ≡ s + (1 + f)
-    sum_opens s f = omega arith
-
     the_word : (i : ℕ) → i ≡ start → Right text n start (start + 1) start ⊎ (begun ≡ true) → Right text n start (start + (1 + b.extent)) i ⊎ ((i ≡ start) × (begun ≡ true))
     the_word i same (inl r) = inl (subst (λ j. Right text n start (start + (1 + b.extent)) j) (sym same) (wider text n start (start + 1) start (start + (1 + b.extent)) start (omega arith) (omega arith) r))
     the_word i same (inr x) = inr (same, x)
@@ -334,7 +313,7 @@ word_right text n word false start ts us r e = inl (inl (took_goes text n word s
 pub opens_stands : {text : Text} {n : ℕ} {b : Laid} {second : Reading} (Is : Item → Type 0) (word : Item) → Stands text n true b second
     → Stands text n false (beside (one_laid word) b) (one n Is word ▷ second)
 opens_stands {text} {n} {b} Is word h = record {
-  moves = λ ts us r. opens_moves b.extent (length ts) (length r.0) (length us) (took_moves n word ts r.0 r.1.1) (h.moves r.0 us r.2);
+  moves = λ ts us r. sum_moves 1 b.extent (length ts) (length r.0) (length us) (took_moves n word ts r.0 r.1.1) (h.moves r.0 us r.2);
   within = λ ts us r start span has. opens_within (h.within r.0 us r.2 (start + 1) span has);
   stands = λ ts us r begun start k e.
       opens_stand text n begun start word b us (word_right text n word begun start ts r.0 r.1.1 e)
