@@ -1,5 +1,5 @@
 -- A block that is read, if its parts stand: the four points of the layout rule.
-use Rattle.std.proofs.Common.{◌≡◌, ◌⊎◌, ◌≤◌, ◌<◌, ℕ, ◌+◌, ◌==◌, nat_le, ◌||◌, ◌&&◌, Bool, true, false, List, [], ◌∷◌, map, length, drop, refl, sym, ap, ap₂, ◌∙◌, subst, inl, inr, zero-add, add-zero, arith, eq-eqb, le-leb, leb-true, append-nil}
+use Rattle.std.proofs.Common.{◌≡◌, ◌⊎◌, ◌≤◌, ◌<◌, ℕ, ◌+◌, ◌==◌, nat_le, ◌||◌, ◌&&◌, Bool, true, false, List, [], ◌∷◌, map, drop, refl, sym, ap, ap₂, ◌∙◌, subst, inl, inr, add-zero, arith, eq-eqb, le-leb, leb-true, append-nil}
 use Rattle.std.specs.List.{list_any}
 use Rattle.hr_base.specs.declared.lexeme.Ending.{Ending}
 use Rattle.hr_base.specs.declared.lexeme.Item.{Item}
@@ -19,7 +19,7 @@ use Rattle.hr_derives.specs.Blocks.{Parts, part_then, pieces_reading, braced_rea
 use Rattle.hr_derives.proofs.Stretches.{beside, Has, has_first, is_empty_at, none_empty, Text, lexemes, seen, seen_plain, seen_empty}
 use Rattle.hr_derives.proofs.Standing.{Right, Within, still_none, none_between, Known, Stands, Standing, nothing_stands, then_stands, given_stands, ending_stands, one_stands}
 use Rattle.hr_derives.proofs.StandingPoints.{is_right, all_right, goes_down, least_down, opens_implicit, opens_empty, column_in, ends_in}
-use Rattle.hr_derives.proofs.StandingPieces.{mark_length, laids, pieces_laid, stretches, PartsStand, pieces_move, pieces_within, AtLeast, PiecesStanding, pieces_stand, Agree, pieces_end}
+use Rattle.hr_derives.proofs.StandingPieces.{laids, pieces_laid, stretches, PartsStand, pieces_within, AtLeast, PiecesStanding, pieces_stand, Agree, pieces_end}
 
 abbrev pub block_by : {T : Type 0} → (T → Laid) → Block T → Block Laid
 block_by of block = record { layout = block.layout; pieces = laids of block.pieces }
@@ -157,7 +157,6 @@ empty_there text kind m col ts us opened c u begun start k e =
 part_then_stands : {text : Text} {n : ℕ} {a b : Laid} {part rest : DeclPlace → Ending → Reading} → ((next : DeclPlace) (end : Ending) → Stands text n false a (part next end))
     → ((next : DeclPlace) (end : Ending) → Stands text n false b (rest next end)) → Stands text n false (beside a b) (part_then part rest)
 part_then_stands g h = record {
-  moves = λ ts us r. (then_stands (g r.0 r.1) (h r.0 r.1)).moves ts us r.2;
   within = λ ts us r. (then_stands (g r.0 r.1) (h r.0 r.1)).within ts us r.2;
   stands = λ ts us r. (then_stands (g r.0 r.1) (h r.0 r.1)).stands ts us r.2;
 }
@@ -211,21 +210,6 @@ explicit_there {text = text} {of = of} p kind m place left right pieces ts us r 
     by inside span (inr has) = inside span (has_first ((pieces_laid of pieces).blocks 0 (start + 1)) [] span has)
 
 -- ---- any block
-moves_over : (k t u : ℕ) → t ≡ k + u → t ≡ (0 + (k + 0)) + u
-moves_over k t u e = omega arith
-
-implicit_moves : {T : Type 0} {text : Text} {of : T → Laid} {parts : Parts T} → PartsStand text of parts → (kind : BlockKind) (m : ℕ) (place : DeclPlace) (col : ℕ) (pieces : List (Piece T))
-    (ts us : List Placed) → implicit_reading parts kind m place col pieces ts us → length ts ≡ (block_laid kind (implicit_block of col pieces)).extent + length us
-implicit_moves {of = of} p kind m place col pieces ts us (inl r) =
-    moves_over (pieces_laid of pieces).extent (length ts) (length us) (sym (mark_length true ts) ∙ ap length (sym r.3) ∙ sym (zero-add (length us)) ∙ ap (λ ps. (pieces_laid of ps).extent + length us) (sym r.1))
-implicit_moves {of = of} p kind m place col pieces ts us (inr r) =
-    moves_over (pieces_laid of pieces).extent (length ts) (length us) (pieces_move p kind col place Ending.Nothing pieces ts us r.1)
-
-pub moves_there : {T : Type 0} {text : Text} {of : T → Laid} {parts : Parts T} → PartsStand text of parts → (kind : BlockKind) (m : ℕ) (place : DeclPlace) (layout : Layout) (pieces : List (Piece T))
-    (ts us : List Placed) → layout_reading parts kind m place layout pieces ts us → length ts ≡ (block_laid kind (record { layout = layout; pieces = laids of pieces })).extent + length us
-moves_there p kind m place (Layout.Implicit col) pieces ts us r = implicit_moves p kind m place col pieces ts us r
-moves_there p kind m place (Layout.Explicit left right) pieces ts us r = (explicit_stands p m place left right pieces).moves ts us r
-
 -- the block itself lies where it starts, and so do those in it
 span_within : (start extent : ℕ) (span : Span) → span.start ≡ start → span.extent ≡ extent → Within true start extent span
 span_within start extent span s e = record { behind = omega arith; ends = omega arith }
@@ -279,7 +263,6 @@ stands_there p kind m place (Layout.Explicit left right) pieces ts us ends r beg
 pub block_stands : {T : Type 0} {text : Text} {of : T → Laid} {parts : Parts T} → PartsStand text of parts → (kind : BlockKind) (m : ℕ) (place : DeclPlace) → Agree of parts place → (block : Block T)
     → Stands text m true (block_laid kind (block_by of block)) (block_reading parts kind m place block)
 block_stands {of = of} {parts = parts} p kind m place agree block = record {
-  moves = λ ts us r. moves_there p kind m place block.layout block.pieces ts us r;
   within = λ ts us r. within_there p kind m place block.layout block.pieces ts us r;
   stands = λ ts us r begun start k e. stands_there p kind m place block.layout block.pieces ts us (λ col q h. pieces_end of parts place agree kind col block.pieces q us h) r begun start k e;
 }

@@ -1,5 +1,5 @@
 -- The pieces of a block without braces: points 2 and 3 of the layout rule, and the ending of the last one.
-use Rattle.std.proofs.Common.{◌≡◌, ◌≢◌, ◌⊎◌, ◌≤◌, ◌<◌, ℕ, zero, suc, ◌+◌, ◌==◌, ◌||◌, ◌&&◌, Bool, true, false, List, [], ◌∷◌, map, length, drop, refl, sym, ap, ◌∙◌, subst, inl, inr, zero-add, add-zero, one-add, add_assoc, arith, eq-eqb, drop-drop}
+use Rattle.std.proofs.Common.{◌≡◌, ◌≢◌, ◌⊎◌, ◌≤◌, ◌<◌, ℕ, zero, suc, ◌+◌, ◌==◌, ◌||◌, ◌&&◌, Bool, true, false, List, [], ◌∷◌, map, drop, refl, sym, ap, ◌∙◌, subst, inl, inr, add-zero, add_assoc, arith, eq-eqb, drop-drop}
 use Rattle.std.specs.List.{list_any}
 use Rattle.std.proofs.lemmas.Bool.{not-true, or_left, or_right}
 use Rattle.hr_base.specs.declared.lexeme.Ending.{Ending}
@@ -15,7 +15,7 @@ use Rattle.hr_grammar.specs.Offside.{IsAtMargin, PartsBegin, begins, placed_amon
 use Rattle.hr_derives.specs.Blocks.{Parts, takes_semicolon, pieces_reading}
 use Rattle.hr_derives.proofs.Stops.{starts_at}
 use Rattle.hr_derives.proofs.Stretches.{beside, Has, has_either, is_empty_at, Text, lexemes, mark_or, seen, Next, lexemes_at, next_in, seen_plain, seen_begun, before_or_behind}
-use Rattle.hr_derives.proofs.Standing.{Right, wider, Within, still, Known, Stands, Standing, in_second, known_first, known_second, both_within, sum_moves, none_between, took}
+use Rattle.hr_derives.proofs.Standing.{Right, wider, Within, still, Known, Stands, Standing, in_second, known_first, known_second, both_within, none_between, took}
 
 -- the pieces, by where their parts lie
 abbrev pub piece_by : {T : Type 0} → (T → Laid) → Piece T → Piece Laid
@@ -37,26 +37,7 @@ pub record PartsStand {T : Type 0} (text : Text) (of : T → Laid) (parts : Part
   pub some : (n : ℕ) (place next : DeclPlace) (part : T) (ending : Ending) (ts us : List Placed) → parts n place next part ending ts us → (of part).extent ≢ 0
   pub ends : (n : ℕ) (place next : DeclPlace) (part : T) (ending : Ending) (ts us : List Placed) → parts n place next part ending ts us → ending ≢ Ending.Nothing
 
--- ---- how many lexemes, and where the blocks lie
-pub mark_length : (first : Bool) (ts : List Placed) → length (mark first ts) ≡ length ts
-mark_length first [] = refl
-mark_length first (next ∷ ts) = refl
-
-semicolon_moves : (n : ℕ) (item : Item) (ts us : List Placed) → takes_semicolon n item ts us → length ts ≡ 1 + length us
-semicolon_moves n item [] us r = elim r [ ]
-semicolon_moves n item (next ∷ ts) us r = ap (λ (l : List Placed). suc (length l)) (sym r.2) ∙ sym (one-add (length us))
-
-pub pieces_move : {T : Type 0} {text : Text} {of : T → Laid} {parts : Parts T} → PartsStand text of parts → (kind : BlockKind) (n : ℕ) (place : DeclPlace) (ending : Ending) (pieces : List (Piece T))
-    (ts us : List Placed) → pieces_reading parts kind n place ending pieces ts us → length ts ≡ (pieces_laid of pieces).extent + length us
-pieces_move p kind n place ending [] ts us r = ap length (sym r.1) ∙ sym (zero-add (length us))
-pieces_move {of = of} p kind n place ending (Piece.Semicolon item ∷ pieces) ts us r =
-    sum_moves 1 (pieces_laid of pieces).extent (length ts) (length r.0) (length us) (semicolon_moves n item ts r.0 r.1.1) (pieces_move p kind n place Ending.Nothing pieces r.0 us r.2)
-pieces_move {of = of} p kind n place ending (Piece.Part part ∷ pieces) ts us r =
-    let next = r.2.0 in let end = r.2.1 in
-    sum_moves (of part).extent (pieces_laid of pieces).extent (length ts) (length r.2.2.0) (length us)
-    (sym (mark_length false ts) ∙ ap length (sym r.1.1) ∙ (p.stands n place next part end).moves r.0 r.2.2.0 r.2.2.1)
-    (pieces_move p kind n next end pieces r.2.2.0 us r.2.2.2)
-
+-- ---- where the blocks lie
 pub pieces_within : {T : Type 0} {text : Text} {of : T → Laid} {parts : Parts T} → PartsStand text of parts → (kind : BlockKind) (n : ℕ) (place : DeclPlace) (ending : Ending) (pieces : List (Piece T))
     (ts us : List Placed) → pieces_reading parts kind n place ending pieces ts us → (start : ℕ) (span : Span) → Has ((pieces_laid of pieces).blocks n start) span
     → Within false start (pieces_laid of pieces).extent span
