@@ -19,6 +19,7 @@ pub mod Standing
 pub mod StandingBlocks
 pub mod StandingDeclarations
 pub mod StandingExpressions
+pub mod StandingLexemes
 pub mod StandingModules
 pub mod StandingPieces
 pub mod StandingPoints

@@ -17,14 +17,15 @@ use Rattle.hr_grammar.specs.Offside.{column_of, begins, IsOffside, StandsWell}
 use Rattle.hr_derives.specs.Readings.{Reading}
 use Rattle.hr_derives.specs.Blocks.{Parts, part_then, pieces_reading, braced_reading, implicit_reading, layout_reading, block_reading}
 use Rattle.hr_derives.proofs.Stretches.{beside, Has, has_first, is_empty_at, none_empty, Text, lexemes, seen, seen_plain, seen_empty}
-use Rattle.hr_derives.proofs.Standing.{Right, Within, still_none, none_between, Known, Stands, Standing, nothing_stands, then_stands, given_stands, ending_stands, one_stands}
+use Rattle.hr_derives.proofs.Standing.{Right, Within, still_none, Known, Stands, Standing, then_stands, given_stands, ending_stands}
+use Rattle.hr_derives.proofs.StandingLexemes.{none_between, nothing_stands, one_stands}
 use Rattle.hr_derives.proofs.StandingPoints.{is_right, all_right, goes_down, least_down, opens_implicit, opens_empty, column_in, ends_in}
 use Rattle.hr_derives.proofs.StandingPieces.{laids, pieces_laid, stretches, PartsStand, pieces_within, AtLeast, PiecesStanding, pieces_stand, Agree, pieces_end}
 
 abbrev pub block_by : {T : Type 0} → (T → Laid) → Block T → Block Laid
 block_by of block = record { layout = block.layout; pieces = laids of block.pieces }
 
--- the block itself, and all that is in it
+-- the block itself, among its blocks the first one
 abbrev the_span : BlockKind → ℕ → ℕ → Block Laid → Span
 the_span kind m start block = record {
   layout = block.layout;

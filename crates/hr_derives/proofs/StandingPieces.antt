@@ -15,7 +15,8 @@ use Rattle.hr_grammar.specs.Offside.{IsAtMargin, PartsBegin, begins, placed_amon
 use Rattle.hr_derives.specs.Blocks.{Parts, takes_semicolon, pieces_reading}
 use Rattle.hr_derives.proofs.Stops.{starts_at}
 use Rattle.hr_derives.proofs.Stretches.{beside, Has, has_either, is_empty_at, Text, lexemes, mark_or, seen, Next, lexemes_at, next_in, seen_plain, seen_begun, before_or_behind}
-use Rattle.hr_derives.proofs.Standing.{Right, wider, Within, still, Known, Stands, Standing, in_second, known_first, known_second, both_within, none_between, took}
+use Rattle.hr_derives.proofs.Standing.{Right, wider, Within, still, Known, Stands, Standing, in_second, known_first, known_second, both_within}
+use Rattle.hr_derives.proofs.StandingLexemes.{none_between, took}
 
 -- the pieces, by where their parts lie
 abbrev pub piece_by : {T : Type 0} → (T → Laid) → Piece T → Piece Laid

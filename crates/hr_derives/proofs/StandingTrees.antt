@@ -21,7 +21,8 @@ use Rattle.hr_derives.specs.Readings.{Reading, one, take_all, separated}
 use Rattle.hr_derives.specs.Derivations.{Derivations}
 use Rattle.hr_derives.proofs.Taken.{one_there_takes}
 use Rattle.hr_derives.proofs.Stretches.{beside, Text}
-use Rattle.hr_derives.proofs.Standing.{Stands, nothing_stands, then_stands, taken_stands, all_stand}
+use Rattle.hr_derives.proofs.Standing.{Stands, then_stands}
+use Rattle.hr_derives.proofs.StandingLexemes.{nothing_stands, taken_stands, all_stand}
 use Rattle.hr_derives.proofs.StandingPieces.{laids}
 use Rattle.hr_derives.proofs.StandingBlocks.{block_by}
 
