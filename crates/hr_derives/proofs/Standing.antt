@@ -111,7 +111,7 @@ pub ends_as_stands : {text : Text} {n : ℕ} {opened : Bool} {laid : Laid} (turn
 ends_as_stands turn s ending = record { moves = λ ts us r. (s r.0).moves ts us r.2; within = λ ts us r. (s r.0).within ts us r.2; stands = λ ts us r. (s r.0).stands ts us r.2 }
 
 -- ---- one stretch behind another
-least_next : (opened : Bool) (start : ℕ) → least opened start ≤ suc start
+pub least_next : (opened : Bool) (start : ℕ) → least opened start ≤ suc start
 least_next true start = omega arith
 least_next false start = omega arith
 
@@ -143,7 +143,7 @@ pub still_none : (f : ℕ) → still false false f ≡ false
 still_none zero = refl
 still_none (suc f) = refl
 
-still_both : (opened begun : Bool) (e f : ℕ) → still false (still opened begun e) f ≡ still opened begun (e + f)
+pub still_both : (opened begun : Bool) (e f : ℕ) → still false (still opened begun e) f ≡ still opened begun (e + f)
 still_both true begun e f = still_none f
 still_both false begun zero f = ap (still false begun) (none_before f)
   where
@@ -288,16 +288,16 @@ in_turn_stands laid_of of each [] = nothing_stands
 in_turn_stands laid_of of each (x ∷ xs) = then_stands (each x) (in_turn_stands laid_of of each xs)
 
 -- ---- the word that opens a block
-opens_known : {text : Text} {start f : ℕ} {spans : List Span} → Known text false start (1 + f) spans → Known text true (start + 1) f spans
+pub opens_known : {text : Text} {start f : ℕ} {spans : List Span} → Known text false start (1 + f) spans → Known text true (start + 1) f spans
 opens_known {start = start} k = record { marks = λ i l h. k.marks i (omega arith) (omega arith); among = k.among }
 
-opens_within : {start f : ℕ} {span : Span} → Within true (start + 1) f span → Within false start (1 + f) span
+pub opens_within : {start f : ℕ} {span : Span} → Within true (start + 1) f span → Within false start (1 + f) span
 opens_within w = record { behind = omega (arith, w.behind); ends = omega (arith, w.ends) }
 
 opens_moves : (f t v u : ℕ) → t ≡ 1 + v → v ≡ f + u → t ≡ (1 + f) + u
 opens_moves f t v u g h = omega arith
 
-still_opens : (begun : Bool) (f : ℕ) → still false begun (1 + f) ≡ false
+pub still_opens : (begun : Bool) (f : ℕ) → still false begun (1 + f) ≡ false
 still_opens begun f = ap (still false begun) (one_before f)
   where
     one_before : (u : ℕ) → 1 + u ≡ suc u

@@ -84,7 +84,7 @@ not_both true true e f = e
 not_both true false e f = let no : ⊥ = cc in elim no [ ]
 not_both false b e f = refl
 
-margin_least : (n : ℕ) (next : Placed) → at_margin n next ≡ true → left_of n next ≡ false
+pub margin_least : (n : ℕ) (next : Placed) → at_margin n next ≡ true → left_of n next ≡ false
 margin_least n next e = not_both (left_of n next) (at_margin n next) (margins n next).apart e
 
 start_least : (n : ℕ) (ending : Ending) (next : Placed) (rest : List Placed) → starts_part n ending (next ∷ rest) ≡ true → left_of n next ≡ false
@@ -206,7 +206,7 @@ part_standing text n start part laid pieces vs us l s t p = record {
     with_block span (inl c) = s.blocks span c
     with_block span (inr c) = t.blocks span c
 
-still_ended : (extent : ℕ) → extent ≢ 0 → still false true extent ≡ false
+pub still_ended : (extent : ℕ) → extent ≢ 0 → still false true extent ≡ false
 still_ended zero other = absurd (other refl)
 still_ended (suc extent) other = refl
 

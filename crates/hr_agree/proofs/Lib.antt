@@ -1,0 +1,3 @@
+pub mod Regaining
+pub mod Retaken
+pub mod RetakenLeaves

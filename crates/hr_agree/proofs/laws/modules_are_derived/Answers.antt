@@ -1,0 +1,7 @@
+use Rattle.hr_agree.proofs.RetakenLeaves.{header_retakes}
+use Rattle.hr_agree.proofs.Retaken.{separated_retakes}
+use Rattle.hr_agree.proofs.Regaining.{opens_regains}
+use Rattle.hr_agree.proofs.laws.modules_are_derived.Goals as goal
+
+pub returns : goal.returns
+returns c = ?
