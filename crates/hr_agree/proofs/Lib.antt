@@ -1,3 +1,4 @@
 pub mod Regaining
+pub mod RegainingPieces
 pub mod Retaken
 pub mod RetakenLeaves

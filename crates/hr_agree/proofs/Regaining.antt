@@ -1,11 +1,13 @@
 -- What is needed of a stretch of a text for a reading to take it: its items, its blocks, which stand as the layout
 -- rule says, and its lexemes, which go on in the nearest block or stand in another one.
 use Rattle.std.proofs.Common.{◌≡◌, ◌⊎◌, ◌≤◌, ◌<◌, ℕ, zero, suc, ◌+◌, Bool, true, false, List, [], ◌∷◌, ◌++◌, map, length, drop, refl, sym, ap, ap₂, ◌∙◌, subst, inl, inr, arith, drop-drop}
+use Rattle.hr_base.specs.declared.lexeme.Class.{Class}
 use Rattle.hr_base.specs.declared.lexeme.Ending.{Ending}
 use Rattle.hr_base.specs.declared.lexeme.Item.{Item}
 use Rattle.hr_rules.specs.declared.block.Placed.{Placed}
 use Rattle.hr_rules.specs.Blocks.{mark, goes_on, is_open_brace}
-use Rattle.hr_rules.specs.Roles.{role_of}
+use Rattle.hr_rules.specs.Roles.{role_by, role_of}
+use Rattle.hr_grammar.specs.Words.{IsOf, IsText}
 use Rattle.hr_grammar.specs.Spans.{Span, Laid, bare, one as one_laid, ending_as}
 use Rattle.hr_grammar.specs.Offside.{placed_among, StandsWell}
 use Rattle.hr_derives.specs.Readings.{Reading, nothing, takes, ◌▷◌, given, one, take_all}
@@ -20,6 +22,15 @@ use Rattle.hr_agree.proofs.Retaken.{Retakes}
 abbrev pub NoBrace : List Item → Type 0
 NoBrace [] = Unit {0}
 NoBrace (item ∷ items) = is_open_brace (role_of item.lexeme) ≡ false
+
+-- an item of a class and text, or of a class
+pub text_firm : (class : Class) (text : List ℕ) (item : Item) → IsText class text item → is_open_brace (role_by class text) ≡ false → is_open_brace (role_of item.lexeme) ≡ false
+unfolding role_of
+text_firm class text item is e = ap₂ (λ c w. is_open_brace (role_by c w)) is.0 is.1 ∙ e
+
+pub class_firm : (class : Class) (item : Item) → IsOf class item → is_open_brace (role_by class item.lexeme.text) ≡ false → is_open_brace (role_of item.lexeme) ≡ false
+unfolding role_of
+class_firm class item is e = ap (λ c. is_open_brace (role_by c item.lexeme.text)) is ∙ e
 
 -- nor is it one behind these
 abbrev pub Firm : List Item → Type 0
@@ -45,7 +56,7 @@ items_behind : (text : Text) (start e : ℕ) (items rest : List Item) → e ≡ 
 items_behind text start e items rest size are =
     ap items_left (sym (drop-drop e start text.placed)) ∙ left_dropped e (drop start text.placed) ∙ ap₂ (λ (k : ℕ) (l : List Item). drop k l) size are ∙ drop_these items rest
 
-sum_size : (e f : ℕ) (items others : List Item) → e ≡ length items → f ≡ length others → e + f ≡ length (items ++ others)
+pub sum_size : (e f : ℕ) (items others : List Item) → e ≡ length items → f ≡ length others → e + f ≡ length (items ++ others)
 sum_size e f items others s t = ap₂ (λ (a b : ℕ). a + b) s t ∙ sym (both_lengths items others)
   where
     none_before : (k : ℕ) → k ≡ 0 + k

@@ -235,7 +235,7 @@ pieces_stand {text = text} {of = of} {parts = parts} p kind n place ending (Piec
     (part_begins of parts text kind n next end pieces vs us r.2.2.2 (p.ends n place next part end r.0 vs r.2.2.1) start (of part).extent here t.parts)
 
 -- ---- the ending of the last piece
-abbrev last_from : Ending → List (Piece Laid) → Ending
+abbrev pub last_from : Ending → List (Piece Laid) → Ending
 last_from ending [] = ending
 last_from ending (piece ∷ pieces) = last_from (piece_laid piece).ending pieces
 
@@ -243,7 +243,7 @@ last_any : (ending : Ending) (piece : Piece Laid) (pieces : List (Piece Laid)) �
 last_any ending piece [] = refl
 last_any ending piece (next ∷ pieces) = last_any (piece_laid piece).ending next pieces
 
-last_is : (pieces : List (Piece Laid)) → last_from Ending.Nothing pieces ≡ last_ending pieces
+pub last_is : (pieces : List (Piece Laid)) → last_from Ending.Nothing pieces ≡ last_ending pieces
 last_is [] = refl
 last_is (piece ∷ pieces) = last_any Ending.Nothing piece pieces
 
