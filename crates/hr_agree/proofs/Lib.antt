@@ -1,4 +1,5 @@
 pub mod Regaining
+pub mod RegainingBlocks
 pub mod RegainingPieces
 pub mod Retaken
 pub mod RetakenLeaves
