@@ -1,5 +1,6 @@
 pub mod Regaining
 pub mod RegainingBlocks
+pub mod RegainingDeclarations
 pub mod RegainingExpressions
 pub mod RegainingPieces
 pub mod RegainingTrees

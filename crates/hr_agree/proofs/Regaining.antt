@@ -52,7 +52,7 @@ drop_these [] rest = refl
 drop_these (item ∷ items) rest = drop_these items rest
 
 -- the items behind those of a stretch
-items_behind : (text : Text) (start e : ℕ) (items rest : List Item) → e ≡ length items → items_left (drop start text.placed) ≡ items ++ rest → items_left (drop (start + e) text.placed) ≡ rest
+pub items_behind : (text : Text) (start e : ℕ) (items rest : List Item) → e ≡ length items → items_left (drop start text.placed) ≡ items ++ rest → items_left (drop (start + e) text.placed) ≡ rest
 items_behind text start e items rest size are =
     ap items_left (sym (drop-drop e start text.placed)) ∙ left_dropped e (drop start text.placed) ∙ ap₂ (λ (k : ℕ) (l : List Item). drop k l) size are ∙ drop_these items rest
 

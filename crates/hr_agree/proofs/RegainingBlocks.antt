@@ -315,7 +315,7 @@ regains_there {text = text} {of = of} {items_of = items_of} {parts = parts} {Fit
     by false e = empty_regain of items_of parts kind m place col pieces start rest (ltb-false m col e) k
 regains_there columns p kind m place (Layout.Explicit left right) pieces fit are start rest k ends = explicit_regain columns p kind m place left right pieces fit are start rest k
 
-block_size : {T : Type 0} {text : Text} {of : T → Laid} {items_of : T → List Item} {parts : Parts T} {Fits : DeclPlace → DeclPlace → T → Type 0} → PartsRegain text of items_of parts Fits
+pub block_size : {T : Type 0} {text : Text} {of : T → Laid} {items_of : T → List Item} {parts : Parts T} {Fits : DeclPlace → DeclPlace → T → Type 0} → PartsRegain text of items_of parts Fits
     → (kind : BlockKind) (place : DeclPlace) (layout : Layout) (pieces : List (Piece T)) → PiecesFit Fits place pieces
     → (block_laid kind (record { layout = layout; pieces = laids of pieces })).extent ≡ length (block_items items_of (record { layout = layout; pieces = pieces }))
 block_size {of = of} {items_of = items_of} p kind place layout pieces fit =

@@ -1,3 +1,4 @@
+use Rattle.hr_agree.proofs.RegainingDeclarations.{alt_over_regains}
 use Rattle.hr_agree.proofs.RegainingExpressions.{exp_over_regains}
 use Rattle.hr_agree.proofs.RegainingTrees.{separated_regain}
 use Rattle.hr_agree.proofs.RegainingBlocks.{block_regains}
