@@ -2,6 +2,7 @@ pub mod Regaining
 pub mod RegainingBlocks
 pub mod RegainingDeclarations
 pub mod RegainingExpressions
+pub mod RegainingModules
 pub mod RegainingPieces
 pub mod RegainingTrees
 pub mod Retaken
