@@ -1,5 +1,5 @@
 -- A block that stands as the layout rule says is read, if its parts are.
-use Rattle.std.proofs.Common.{◌≡◌, ◌≢◌, ◌⊎◌, ◌≤◌, ◌<◌, ℕ, zero, suc, ◌+◌, ◌==◌, ◌||◌, ◌&&◌, not, nat_lt, nat_le, Bool, true, false, if◌then◌else◌, List, [], ◌∷◌, ◌++◌, map, length, drop, refl, sym, ap, ap₂, ◌∙◌, subst, inl, inr, arith, le-leb, lt-ltb, ltb-true, ltb-false, leb-true, eq-eqb, drop-drop, append-nil}
+use Rattle.std.proofs.Common.{◌≡◌, ◌≢◌, ◌⊎◌, ◌≤◌, ◌<◌, ℕ, zero, suc, ◌+◌, ◌==◌, ◌||◌, ◌&&◌, not, nat_lt, nat_le, Bool, true, false, if◌then◌else◌, List, [], ◌∷◌, ◌++◌, length, drop, refl, sym, ap, ap₂, ◌∙◌, subst, inl, inr, arith, lt-ltb, ltb-true, ltb-false, leb-true, eq-eqb, drop-drop, append-nil}
 use Rattle.std.specs.List.{flat_map, list_any}
 use lib.Chars.{codes}
 use Rattle.hr_base.specs.declared.lexeme.Class.{Class}
@@ -8,8 +8,7 @@ use Rattle.hr_base.specs.declared.lexeme.Item.{Item}
 use Rattle.hr_rules.specs.declared.block.BlockKind.{BlockKind}
 use Rattle.hr_rules.specs.declared.block.Opened.{Opened}
 use Rattle.hr_rules.specs.declared.block.Placed.{Placed}
-use Rattle.hr_rules.specs.Blocks.{mark, role, is_open_brace, opens, goes_on, left_of, ends_block}
-use Rattle.hr_rules.specs.Roles.{role_of}
+use Rattle.hr_rules.specs.Blocks.{opens, goes_on, left_of, ends_block}
 use Rattle.hr_tree.specs.declared.lists.Block.{Block}
 use Rattle.hr_tree.specs.declared.lists.Layout.{Layout}
 use Rattle.hr_tree.specs.declared.lists.Piece.{Piece}
@@ -17,16 +16,16 @@ use Rattle.hr_tree.specs.Lists.{piece_items, block_items, opening_items, closing
 use Rattle.hr_grammar.specs.Blocks.{AreBraced}
 use Rattle.hr_grammar.specs.Words.{IsLeftBrace, IsRightBrace}
 use Rattle.hr_grammar.specs.Nodes.{DeclPlace}
-use Rattle.hr_grammar.specs.Spans.{Span, Stretch, stretch_length, Laid, one as one_laid, block_laid, last_ending}
-use Rattle.hr_grammar.specs.Offside.{column_of, placed_among, begins, is_braced, is_left_empty, StandsRight, AllStandRight, IsOffside, StandsWell}
+use Rattle.hr_grammar.specs.Spans.{Span, Stretch, stretch_length, Laid, block_laid, last_ending}
+use Rattle.hr_grammar.specs.Offside.{column_of, placed_among, begins, is_braced, StandsRight, AllStandRight, IsOffside}
 use Rattle.hr_derives.specs.Blocks.{Parts, pieces_reading, implicit_reading, layout_reading, block_reading}
 use Rattle.hr_derives.specs.Laws.{items_left}
-use Rattle.hr_derives.proofs.Stretches.{beside, Has, has_first, is_empty_at, Text, lexemes, mark_or, seen, Next, lexemes_at, seen_plain, seen_empty}
-use Rattle.hr_derives.proofs.Standing.{GoesAt, Within, before, still_none, Known}
-use Rattle.hr_derives.proofs.StandingPieces.{laids, pieces_laid, stretches, AtLeast, last_is}
-use Rattle.hr_derives.proofs.StandingBlocks.{block_by, the_span, implicit_block, explicit_block, in_braces, with_layout, next_map, column_in, not_above, none_over, none_more, none_at_start, implicit_known, later_known, empty_mark, in_block, same_within}
-use Rattle.hr_agree.proofs.Regaining.{NoBrace, text_firm, sum_size, Covered, Held, BeginsAt, Given, Regains, then_regains, one_regains, one_then_regains}
-use Rattle.hr_agree.proofs.RegainingPieces.{PartsRegain, EndsAlike, PiecesFit, pieces_firm, pieces_size, pieces_lie, PieceAt, goes_least, Closes, pieces_regain, braced_regain}
+use Rattle.hr_derives.proofs.Stretches.{Has, has_first, is_empty_at, Text, lexemes, mark_or, seen, Next, lexemes_at, seen_plain, seen_empty}
+use Rattle.hr_derives.proofs.Standing.{GoesAt, Within, still_none}
+use Rattle.hr_derives.proofs.StandingPieces.{laids, pieces_laid, stretches, last_is}
+use Rattle.hr_derives.proofs.StandingBlocks.{block_by, the_span, implicit_block, explicit_block, in_braces, with_layout, column_in, none_over, none_more, none_at_start, implicit_known, later_known, empty_mark, in_block, same_within}
+use Rattle.hr_agree.proofs.Regaining.{NoBrace, text_firm, sum_size, Covered, BeginsAt, Given, Regains, then_regains, one_regains, one_then_regains}
+use Rattle.hr_agree.proofs.RegainingPieces.{PartsRegain, EndsAlike, PiecesFit, pieces_firm, pieces_size, pieces_lie, PieceAt, Closes, pieces_regain, braced_regain}
 
 -- ---- point 3, lexeme by lexeme
 none_left : (i j : ℕ) (ts : List Placed) → drop i ts ≡ [] → i ≤ j → drop j ts ≡ []
@@ -237,9 +236,9 @@ implicit_regain {text = text} {of = of} {items_of = items_of} {parts = parts} {F
     inr (
       open_here m col (flat_map (piece_items items_of) pieces ++ rest) (drop start text.placed) g.items_are firm l (o.column ∙ sym (column_in text start)),
       subst (λ e. pieces_reading parts kind col place Ending.Nothing pieces (drop start text.placed) (seen text false (start + e))) (sym extent)
-      (subst (λ ts. pieces_reading parts kind col place Ending.Nothing pieces ts (seen text false (start + (pieces_laid of pieces).extent))) (sym plain)
-      (pieces_regain p kind col place Ending.Nothing pieces fit start rest g (o.parts l) (inl refl)
-      (subst (λ e. Closes of parts Fits kind col Ending.Nothing pieces (seen text false (start + e))) extent (closing o ends)))),
+          (subst (λ ts. pieces_reading parts kind col place Ending.Nothing pieces ts (seen text false (start + (pieces_laid of pieces).extent))) (sym plain)
+          (pieces_regain p kind col place Ending.Nothing pieces fit start rest g (o.parts l) (inl refl)
+          (subst (λ e. Closes of parts Fits kind col Ending.Nothing pieces (seen text false (start + e))) extent (closing o ends)))),
     )
   where
     closing : IsOffside text.spans (lexemes text) (the_span kind m start (implicit_block of col pieces)) col
@@ -247,8 +246,11 @@ implicit_regain {text = text} {of = of} {items_of = items_of} {parts = parts} {F
         → Closes of parts Fits kind col Ending.Nothing pieces (seen text false (start + (block_laid kind (implicit_block of col pieces)).extent))
     closing o (inl none) = inl none
     closing o (inr alike) =
-        inr (alike, subst (λ e. ends_block col kind e (seen text false (start + (block_laid kind (implicit_block of col pieces)).extent)) ≡ true) (sym (last_is (laids of pieces)))
-        (ends_there text col kind (last_ending (laids of pieces)) (start + (block_laid kind (implicit_block of col pieces)).extent) (o.ends l)))
+        inr (
+          alike,
+          subst (λ e. ends_block col kind e (seen text false (start + (block_laid kind (implicit_block of col pieces)).extent)) ≡ true) (sym (last_is (laids of pieces)))
+              (ends_there text col kind (last_ending (laids of pieces)) (start + (block_laid kind (implicit_block of col pieces)).extent) (o.ends l)),
+        )
 
 -- a block that is left empty
 empty_regain : {T : Type 0} {text : Text} (of : T → Laid) (items_of : T → List Item) (parts : Parts T) (kind : BlockKind) (m : ℕ) (place : DeclPlace) (col : ℕ) (pieces : List (Piece T)) (start : ℕ) (rest : List Item)

@@ -1,5 +1,5 @@
 -- Expressions of the grammar that stand are read.
-use Rattle.std.proofs.Common.{◌≡◌, ◌≢◌, ℕ, Bool, true, false, List, [], ◌∷◌, ◌++◌, length, Option, Some, None, refl, sym, ap, ◌∙◌, subst, inl, inr}
+use Rattle.std.proofs.Common.{◌≡◌, ℕ, Bool, true, false, List, [], ◌∷◌, ◌++◌, Option, Some, None, refl, sym, ap, ◌∙◌, subst, inr}
 use Rattle.std.specs.List.{flat_map}
 use lib.Chars.{codes}
 use Rattle.hr_base.specs.declared.lexeme.Class.{Class}
@@ -10,7 +10,6 @@ use Rattle.hr_rules.specs.declared.block.Placed.{Placed}
 use Rattle.hr_rules.specs.Blocks.{is_open_brace}
 use Rattle.hr_rules.specs.Roles.{role_of}
 use Rattle.hr_tree.specs.declared.lists.Operand.{Operand}
-use Rattle.hr_tree.specs.declared.lists.Block.{Block}
 use Rattle.hr_tree.specs.declared.names.Operator.{Operator}
 use Rattle.hr_tree.specs.declared.expressions.Exp.{Exp, out-Exp, roll-Exp}
 use Rattle.hr_tree.specs.declared.expressions.Decl.{Decl}
@@ -25,14 +24,13 @@ use Rattle.hr_tree.specs.Yields.{pat_items, decl_layer, exp_layer, qualifier_lay
 use Rattle.hr_tree.proofs.ExpressionYields.{exp_group, exp_tuple, exp_list, exp_from, exp_from_then, exp_from_to, exp_from_then_to, exp_comprehension, exp_left_section, exp_right_section, exp_apply, exp_infix, exp_annotated, exp_lambda, exp_let, exp_if, exp_case, qualifier_generator, qualifier_locals, qualifier_test}
 use Rattle.hr_grammar.specs.Words.{IsWord, IsReserved, IsLiteral, IsMinus, IsLeftParen, IsRightParen, IsLeftSquare, IsRightSquare, IsComma, IsBar, IsDots, IsArrow, IsBackArrow, IsDoubleColon}
 use Rattle.hr_grammar.specs.Spelled.{Maybe, IsNamedVariable, IsConstructor, IsOperator}
-use Rattle.hr_grammar.specs.Nodes.{Nodes, TyPlace, PatPlace, ExpPlace, DeclPlace}
+use Rattle.hr_grammar.specs.Nodes.{Nodes, TyPlace, PatPlace, ExpPlace}
 use Rattle.hr_grammar.specs.Expressions.{last_operand, AreExpOperands, QualifierProduction, IsQualifierOver, ExpProduction}
 use Rattle.hr_grammar.specs.Spans.{Laid, one as one_laid, ending_as, block_laid, decl_laid, exp_laid, qualifier_laid, alt_laid}
 use Rattle.hr_derives.specs.Readings.{Reading, take_all, inside, given}
 use Rattle.hr_derives.specs.Derivations.{Derivations}
 use Rattle.hr_derives.specs.Expressions.{applied, closed, annotated, exp_operands, qualifier_reading, qualifier_over, exp_reading, exp_over}
 use Rattle.hr_derives.proofs.Stretches.{beside, Text}
-use Rattle.hr_derives.proofs.StandingBlocks.{block_by}
 use Rattle.hr_derives.proofs.StandingExpressions.{exp_let as exp_let_laid}
 use Rattle.hr_derives.proofs.StandingTrees.{laid_exp, laid_decl, laid_qualifier, laid_alt, operands_laid, pieces_turned}
 use Rattle.hr_agree.proofs.Retaken.{in_turn_retakes, spelled_retakes, maybe_one_retakes, operator_there_retakes}

@@ -1,7 +1,6 @@
 -- A module of the grammar that stands is read of its own items.
-use Rattle.std.proofs.Common.{◌≡◌, ◌⊎◌, ◌≤◌, ◌<◌, ◌+◌, ◌||◌, ℕ, zero, suc, not, nat_lt, Bool, true, false, List, [], ◌∷◌, ◌++◌, length, drop, refl, sym, ap, ap₂, ◌∙◌, subst, inl, inr, arith, lt-ltb}
+use Rattle.std.proofs.Common.{◌≡◌, ◌≤◌, ◌+◌, ◌||◌, ℕ, zero, suc, not, nat_lt, Bool, true, false, List, [], ◌∷◌, ◌++◌, length, drop, refl, sym, ap, ◌∙◌, subst, inl, inr, arith, lt-ltb}
 use Rattle.std.specs.List.{AllByRecursion}
-use Rattle.hr_base.specs.declared.lexeme.Ending.{Ending}
 use Rattle.hr_base.specs.declared.lexeme.Item.{Item}
 use Rattle.hr_base.specs.declared.lexeme.Items.{Items}
 use Rattle.hr_rules.specs.declared.block.BlockKind.{BlockKind}
@@ -19,11 +18,10 @@ use Rattle.hr_grammar.specs.Nodes.{Nodes, DeclPlace}
 use Rattle.hr_grammar.specs.Firsts.{kind_at}
 use Rattle.hr_grammar.specs.Spans.{Span, block_laid, spans_of}
 use Rattle.hr_grammar.specs.Offside.{placed_among, StandsWell, Offside}
-use Rattle.hr_grammar.specs.Yields.{nodes, nesting_limit, IsModule, Yields}
+use Rattle.hr_grammar.specs.Yields.{nodes, nesting_limit, IsModule}
 use Rattle.hr_grammar.proofs.Firsts.{patterns_begin_lem, expressions_begin_lem}
 use Rattle.hr_grammar.proofs.PartFirsts.{declarations_begin_lem, alternatives_begin_lem}
-use Rattle.hr_derives.specs.Readings.{takes, take_all}
-use Rattle.hr_derives.specs.Derivations.{Derivations}
+use Rattle.hr_derives.specs.Readings.{take_all}
 use Rattle.hr_derives.specs.Modules.{comes_behind, decl_parts, alt_parts, derivations, Derives}
 use Rattle.hr_derives.specs.Laws.{items_left}
 use Rattle.hr_derives.proofs.Readings.{append_nothing}
@@ -31,12 +29,12 @@ use Rattle.hr_derives.proofs.Stretches.{Has, is_empty_at, Text, lexemes, seen, N
 use Rattle.hr_derives.proofs.Standing.{GoesAt}
 use Rattle.hr_derives.proofs.StandingPieces.{laids}
 use Rattle.hr_derives.proofs.StandingTrees.{laid_decl, laid_alt}
-use Rattle.hr_derives.proofs.StandingModules.{body_spans, spans_are, stays_local}
+use Rattle.hr_derives.proofs.StandingModules.{spans_are, stays_local}
 use Rattle.hr_derives.proofs.EndingsAgree.{levels_end}
 use Rattle.hr_agree.specs.Laws.{ModulesAreDerived, YieldedIsDerived}
 use Rattle.hr_agree.proofs.RetakenLeaves.{levels_retake, header_retakes}
 use Rattle.hr_agree.proofs.Regaining.{items_behind, Given, through, the_first}
-use Rattle.hr_agree.proofs.RegainingPieces.{Begun, PartsRegain, EndsAlike, PiecesFit}
+use Rattle.hr_agree.proofs.RegainingPieces.{PartsRegain, EndsAlike, PiecesFit}
 use Rattle.hr_agree.proofs.RegainingBlocks.{regains_there, block_size, block_regains}
 use Rattle.hr_agree.proofs.RegainingTrees.{pattern_begun, expression_begun, part_begun, AllRegain}
 use Rattle.hr_agree.proofs.RegainingExpressions.{exp_over_regains}
@@ -170,11 +168,11 @@ derived (suc levels) tree is stands =
     let start = 0 + length (header_items tree.header) in
     let body = block_items decl_items tree.body in
     let here : items_left (drop start placed) ≡ body ++ [] =
-        items_behind text 0 (length (header_items tree.header)) (header_items tree.header) (body ++ []) refl (are ∙ ap (λ (l : List Item). header_items tree.header ++ l) (sym (append_nothing body))) in
+    items_behind text 0 (length (header_items tree.header)) (header_items tree.header) (body ++ []) refl (are ∙ ap (λ (l : List Item). header_items tree.header ++ l) (sym (append_nothing body))) in
     let allowed = nodes levels in
     let parts = top_parts text levels (levels_regain text columns levels) in
     let fit : PiecesFit (FitsTop allowed) DeclPlace.First tree.body.pieces =
-        subst (λ l. PiecesFit (FitsTop allowed) DeclPlace.First l) (sym is.1.1.2) (tops_fit allowed is.1.1.0 is.1.1.1 is.1.1.3 is.1.1.4) in
+    subst (λ l. PiecesFit (FitsTop allowed) DeclPlace.First l) (sym is.1.1.2) (tops_fit allowed is.1.1.0 is.1.1.1 is.1.1.3 is.1.1.4) in
     let extent = (block_laid BlockKind.Body (record { layout = tree.body.layout; pieces = laids laid_decl tree.body.pieces })).extent in
     let size = block_size parts BlockKind.Body DeclPlace.First tree.body.layout tree.body.pieces fit in
     let end : seen text false (start + extent) ≡ [] = none_seen (is_empty_at text.spans (start + extent)) (drop (start + extent) placed) (items_behind text start extent body [] size here) in
@@ -189,11 +187,12 @@ derived (suc levels) tree is stands =
       items_are = here;
       clear = inr tt;
     } in
-    let reading = regains_there columns parts BlockKind.Body 0 DeclPlace.First tree.body.layout tree.body.pieces fit is.1.0 start [] given (inl end) in
-    (drop start placed,
-     (header_retakes tree.header is.0).retakes placed (drop start placed)
-     (subst (λ k. take_all 0 (header_items tree.header) placed (drop k placed)) (none_before (length (header_items tree.header))) (columns_take (header_items tree.header) body placed (columns-one items) are)),
-     subst (λ us. (derivations (suc levels)).declarations 0 DeclPlace.Top tree.body (drop start placed) us) end reading)
+    let reading = regains_there columns parts BlockKind.Body 0 DeclPlace.First tree.body.layout tree.body.pieces fit is.1.0 start [] given (inl end) in (
+      drop start placed,
+      (header_retakes tree.header is.0).retakes placed (drop start placed)
+          (subst (λ k. take_all 0 (header_items tree.header) placed (drop k placed)) (none_before (length (header_items tree.header))) (columns_take (header_items tree.header) body placed (columns-one items) are)),
+      subst (λ us. (derivations (suc levels)).declarations 0 DeclPlace.Top tree.body (drop start placed) us) end reading,
+    )
   where
     none_before : (k : ℕ) → k ≡ 0 + k
     none_before k = omega arith

@@ -1,5 +1,5 @@
 -- The pieces of a block: where they stand as the layout rule says, they are read.
-use Rattle.std.proofs.Common.{◌≡◌, ◌≢◌, ◌⊎◌, ◌≤◌, ◌<◌, ℕ, zero, suc, ◌+◌, ◌==◌, ◌||◌, ◌&&◌, not, nat_lt, Bool, true, false, List, [], ◌∷◌, ◌++◌, map, length, drop, refl, sym, ap, ap₂, ◌∙◌, subst, inl, inr, arith, eqb-true, ne_eqb, lt-ltb, ltb-true, drop-drop}
+use Rattle.std.proofs.Common.{◌≡◌, ◌≢◌, ◌⊎◌, ◌≤◌, ◌<◌, ℕ, zero, suc, ◌+◌, ◌==◌, ◌||◌, ◌&&◌, not, nat_lt, Bool, true, false, List, [], ◌∷◌, ◌++◌, length, drop, refl, sym, ap, ◌∙◌, subst, inl, inr, arith, eqb-true, ne_eqb, ltb-true, drop-drop}
 use Rattle.std.specs.List.{flat_map, list_any}
 use lib.Chars.{codes}
 use Rattle.hr_base.specs.declared.lexeme.Class.{Class}
@@ -7,23 +7,23 @@ use Rattle.hr_base.specs.declared.lexeme.Ending.{Ending}
 use Rattle.hr_base.specs.declared.lexeme.Item.{Item}
 use Rattle.hr_rules.specs.declared.block.BlockKind.{BlockKind}
 use Rattle.hr_rules.specs.declared.block.Placed.{Placed}
-use Rattle.hr_rules.specs.Blocks.{mark, left_of, at_margin, goes_on, is_open_brace, starts_part, ends_block}
+use Rattle.hr_rules.specs.Blocks.{left_of, goes_on, is_open_brace, starts_part, ends_block}
 use Rattle.hr_rules.specs.Roles.{role_of}
 use Rattle.hr_tree.specs.declared.lists.Piece.{Piece}
 use Rattle.hr_tree.specs.Lists.{piece_items}
 use Rattle.hr_grammar.specs.Words.{IsSemicolon}
 use Rattle.hr_grammar.specs.Blocks.{AreApart}
 use Rattle.hr_grammar.specs.Nodes.{DeclPlace}
-use Rattle.hr_grammar.specs.Spans.{Span, Stretch, stretch_length, Laid, one as one_laid, bare}
+use Rattle.hr_grammar.specs.Spans.{Span, Stretch, stretch_length, Laid}
 use Rattle.hr_grammar.specs.Offside.{IsAtMargin, PartsBegin, begins, placed_among}
 use Rattle.hr_derives.specs.Readings.{inside}
 use Rattle.hr_derives.specs.Blocks.{Parts, takes_semicolon, pieces_reading, braced_reading}
 use Rattle.hr_derives.specs.Laws.{items_left}
 use Rattle.hr_derives.proofs.Readings.{append_assoc}
-use Rattle.hr_derives.proofs.Stretches.{beside, Has, is_empty_at, Text, lexemes, mark_or, seen, Next, lexemes_at, seen_plain, seen_begun}
-use Rattle.hr_derives.proofs.Standing.{GoesAt, Within, still, known_first, known_second, in_second, both_within, sum_after}
+use Rattle.hr_derives.proofs.Stretches.{Has, is_empty_at, Text, lexemes, mark_or, seen, Next, lexemes_at, seen_plain, seen_begun}
+use Rattle.hr_derives.proofs.Standing.{GoesAt, Within, known_first, in_second, both_within, sum_after}
 use Rattle.hr_derives.proofs.StandingPieces.{laids, pieces_laid, stretches, AtLeast, margin_least, still_ended, last_from}
-use Rattle.hr_agree.proofs.Regaining.{NoBrace, Firm, text_firm, nothing_firm, both_firm, sum_size, Covered, Held, BeginsAt, Given, Regains, through, given_regains, ending_regains, given_first, given_second, then_regains, one_regains, nothing_regains, next_seen, the_first, takes_here}
+use Rattle.hr_agree.proofs.Regaining.{Firm, text_firm, nothing_firm, both_firm, sum_size, Held, BeginsAt, Given, Regains, through, ending_regains, given_first, given_second, then_regains, one_regains, nothing_regains, next_seen, the_first}
 
 -- ---- first items
 -- there is a first item, and it is no `{`
@@ -227,14 +227,15 @@ pieces_regain {text = text} {of = of} {items_of = items_of} {parts = parts} {Fit
     let within = pieces_lie p n place (Piece.Semicolon item ∷ pieces) fit start in
     let least = first_least text n start (1 + others.extent) (others.blocks n (start + 1)) (Stretch.Semicolon ∷ stretches of pieces) within (k.each start (omega arith) (omega arith)) in
     let later = given_second {Second = PieceAt text n (start + 1) (stretches of pieces)} (item ∷ []) (flat_map (piece_items items_of) pieces) rest (record { extent = 1; ending = Ending.Nothing; blocks = λ m s. [] }) others refl
-        (λ span has. elim has [ ]) (λ i l x. (x.0, begins_later (stretches of pieces) start 1 i (one_more_none 0) l x.1)) k in
+    (λ span has. elim has [ ]) (λ i l x. (x.0, begins_later (stretches of pieces) start 1 i (one_more_none 0) l x.1)) k in
     let none = (known_first {f = others.extent} [] (others.blocks n (start + 1)) (pieces_lie p n place pieces fit.1 (start + 1)) k.known).marks (start + 1) (omega arith) (omega arith) in
-    let same = sum_after start 1 others.extent in
-    (seen text false (start + 1),
-     (fit.0, semicolon_here text n item (flat_map (piece_items items_of) pieces ++ rest) start (seen text false (start + 1)) k.items_are least (sym (seen_plain text (start + 1) none))),
-     subst (λ i. pieces_reading parts kind n place Ending.Nothing pieces (seen text false (start + 1)) (seen text false i)) same
-     (pieces_regain p kind n place Ending.Nothing pieces fit.1 (start + 1) rest later (subst (PartsBegin n (stretches of pieces)) (drop-drop 1 start (lexemes text)) begin) (inl refl)
-     (subst (λ i. Closes of parts Fits kind n Ending.Nothing pieces (seen text false i)) (sym same) closes)))
+    let same = sum_after start 1 others.extent in (
+      seen text false (start + 1),
+      (fit.0, semicolon_here text n item (flat_map (piece_items items_of) pieces ++ rest) start (seen text false (start + 1)) k.items_are least (sym (seen_plain text (start + 1) none))),
+      subst (λ i. pieces_reading parts kind n place Ending.Nothing pieces (seen text false (start + 1)) (seen text false i)) same
+          (pieces_regain p kind n place Ending.Nothing pieces fit.1 (start + 1) rest later (subst (PartsBegin n (stretches of pieces)) (drop-drop 1 start (lexemes text)) begin) (inl refl)
+          (subst (λ i. Closes of parts Fits kind n Ending.Nothing pieces (seen text false i)) (sym same) closes)),
+    )
 pieces_regain {text = text} {of = of} {items_of = items_of} {parts = parts} {Fits = Fits} p kind n place ending (Piece.Part part ∷ pieces) fit start rest k begin ready closes =
     let next = fit.0 in let others = pieces_laid of pieces in
     let one_part = p.regains n place next part fit.1 in
@@ -243,24 +244,34 @@ pieces_regain {text = text} {of = of} {items_of = items_of} {parts = parts} {Fit
     let inner = pieces_lie p n next pieces fit.2 (start + (of part).extent) in
     let within = pieces_lie p n place (Piece.Part part ∷ pieces) fit start in
     let least = first_least text n start ((of part).extent + others.extent) ((of part).blocks n start ++ others.blocks n (start + (of part).extent)) (Stretch.Part (of part).extent ∷ stretches of pieces) within
-        (k.each start (omega arith) (some_more start (of part).extent others.extent some)) in
+    (k.each start (omega arith) (some_more start (of part).extent others.extent some)) in
     let first = given_first {First = BeginsAt false true start} (items_of part) (flat_map (piece_items items_of) pieces) rest (of part) others (inr (pieces_firm p next pieces fit.2)) inner
-        (λ i l x. (begins_first (stretches of pieces) start (of part).extent i l x.1, refl)) k in
+    (λ i l x. (begins_first (stretches of pieces) start (of part).extent i l x.1, refl)) k in
     let later = given_second {Second = PieceAt text n (start + (of part).extent) (stretches of pieces)} (items_of part) (flat_map (piece_items items_of) pieces) rest (of part) others one_part.size (one_part.within start)
-        (λ i l x. (x.0, begins_later (stretches of pieces) start (of part).extent i some l x.1)) k in
+    (λ i l x. (x.0, begins_later (stretches of pieces) start (of part).extent i some l x.1)) k in
     let r = one_part.regains true start (flat_map (piece_items items_of) pieces ++ rest) first in
     let here = subst (λ (b : Bool). parts n place next part r.0 (seen text true start) (seen text b (start + (of part).extent))) (still_ended (of part).extent some) r.1 in
     let behind = margin_behind n (of part).extent (stretches of pieces) (drop start (lexemes text)) begin in
     let to = drop-drop (of part).extent start (lexemes text) in
-    let same = sum_after start (of part).extent others.extent in
-    (seen text true start,
-     (starts_here text n ending (items_of part) (flat_map (piece_items items_of) pieces ++ rest) start (of part).extent (stretches of pieces) begun (k.items_are ∙ append_assoc (items_of part) (flat_map (piece_items items_of) pieces) rest) least ready,
-      sym (seen_begun text start)),
-     (next, r.0, (seen text false (start + (of part).extent), here,
-      subst (λ i. pieces_reading parts kind n next r.0 pieces (seen text false (start + (of part).extent)) (seen text false i)) same
-      (pieces_regain p kind n next r.0 pieces fit.2 (start + (of part).extent) rest later (subst (PartsBegin n (stretches of pieces)) to behind.1)
-      (inr (subst (Margin n (stretches of pieces)) to behind.0))
-      (subst (λ i. Closes of parts Fits kind n r.0 pieces (seen text false i)) (sym same) (turned r.0 (seen text false (start + (of part).extent)) here closes))))))
+    let same = sum_after start (of part).extent others.extent in (
+      seen text true start,
+      (
+        starts_here text n ending (items_of part) (flat_map (piece_items items_of) pieces ++ rest) start (of part).extent (stretches of pieces) begun (k.items_are ∙ append_assoc (items_of part) (flat_map (piece_items items_of) pieces) rest) least ready,
+        sym (seen_begun text start),
+      ),
+      (
+        next,
+        r.0,
+        (
+          seen text false (start + (of part).extent),
+          here,
+          subst (λ i. pieces_reading parts kind n next r.0 pieces (seen text false (start + (of part).extent)) (seen text false i)) same
+              (pieces_regain p kind n next r.0 pieces fit.2 (start + (of part).extent) rest later (subst (PartsBegin n (stretches of pieces)) to behind.1)
+              (inr (subst (Margin n (stretches of pieces)) to behind.0))
+              (subst (λ i. Closes of parts Fits kind n r.0 pieces (seen text false i)) (sym same) (turned r.0 (seen text false (start + (of part).extent)) here closes))),
+        ),
+      ),
+    )
   where
     some_more : (s e f : ℕ) → e ≢ 0 → s < s + (e + f)
     some_more s zero f o = absurd (o refl)

@@ -1,5 +1,5 @@
 -- Trees that stand are read: what is asked of each on the level below, and lists of them.
-use Rattle.std.proofs.Common.{◌≡◌, ◌⊎◌, ℕ, Bool, true, false, if◌then◌else◌, List, [], ◌∷◌, ◌++◌, map, Option, Some, None, refl, sym, ap, ◌∙◌, subst, inl, inr}
+use Rattle.std.proofs.Common.{◌≡◌, ℕ, Bool, true, false, if◌then◌else◌, List, [], ◌∷◌, ◌++◌, map, Option, Some, None, refl, sym, ◌∙◌, subst, inl, inr}
 use Rattle.std.specs.List.{AllByRecursion, flat_map}
 use lib.Chars.{codes}
 use Rattle.hr_base.specs.declared.lexeme.Class.{Class}
@@ -20,19 +20,19 @@ use Rattle.hr_tree.specs.declared.expressions.Alt.{Alt}
 use Rattle.hr_tree.specs.Names.{maybe_item, operator_items}
 use Rattle.hr_tree.specs.Lists.{listed_items, block_items}
 use Rattle.hr_tree.specs.Yields.{pat_items, exp_items, decl_items, alt_items}
-use Rattle.hr_grammar.specs.Words.{IsOf, IsText}
+use Rattle.hr_grammar.specs.Words.{IsText}
 use Rattle.hr_grammar.specs.Spelled.{IsOperator, IsVariableOperator, IsConstructorOperator}
 use Rattle.hr_grammar.specs.Separated.{There, AreSeparated}
 use Rattle.hr_grammar.specs.Nodes.{Nodes, PatPlace, ExpPlace, DeclPlace}
 use Rattle.hr_grammar.specs.Firsts.{Begins, begins_pattern, begins_operand, opens_expression, BeginsExpression, opens_part}
-use Rattle.hr_grammar.specs.Spans.{Laid, bare, row, block_laid}
+use Rattle.hr_grammar.specs.Spans.{Laid, row, block_laid}
 use Rattle.hr_derives.specs.Readings.{Reading, one, take_all, in_turn, separated, inside}
 use Rattle.hr_derives.specs.Derivations.{Derivations}
 use Rattle.hr_derives.proofs.Stretches.{Text}
 use Rattle.hr_derives.proofs.StandingBlocks.{block_by}
 use Rattle.hr_derives.proofs.StandingTrees.{laid_exp, laid_decl, laid_alt, separated_laid}
 use Rattle.hr_agree.proofs.Retaken.{one_there_retakes}
-use Rattle.hr_agree.proofs.Regaining.{NoBrace, Firm, text_firm, class_firm, nothing_firm, Regains, through, then_regains, all_regain, retaken_regains, nothing_regains}
+use Rattle.hr_agree.proofs.Regaining.{Firm, text_firm, class_firm, nothing_firm, Regains, through, then_regains, all_regain, retaken_regains, nothing_regains}
 use Rattle.hr_agree.proofs.RegainingPieces.{Begun, begun_firm}
 
 -- ---- first items

@@ -1,6 +1,6 @@
 -- Readings that know nothing of layout, the other way round: where its items go on one behind another, a name or a
 -- list is read, if it is one of the grammar.
-use Rattle.std.proofs.Common.{◌≡◌, ℕ, List, [], ◌∷◌, ◌++◌, Option, Some, None, refl, sym, ap, ◌∙◌, subst}
+use Rattle.std.proofs.Common.{◌≡◌, ℕ, List, [], ◌∷◌, ◌++◌, Option, Some, None, refl, sym, subst}
 use Rattle.std.specs.List.{AllByRecursion, flat_map}
 use Rattle.hr_base.specs.declared.lexeme.Item.{Item}
 use Rattle.hr_rules.specs.declared.block.Placed.{Placed}

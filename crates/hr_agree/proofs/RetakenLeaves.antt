@@ -1,6 +1,6 @@
 -- Types, patterns, heads, imports and headers of the grammar: where their items go on, they are read.
-use Rattle.std.proofs.Common.{◌≡◌, ◌≢◌, ℕ, zero, suc, true, List, [], ◌∷◌, ◌++◌, length, Option, Some, None, sym, ap, ◌∙◌}
-use Rattle.std.specs.List.{AllByRecursion, flat_map}
+use Rattle.std.proofs.Common.{ℕ, zero, suc, List, [], ◌∷◌, ◌++◌, Option, Some, None, sym, ap, ◌∙◌}
+use Rattle.std.specs.List.{flat_map}
 use lib.Chars.{codes}
 use Rattle.hr_base.specs.declared.lexeme.Class.{Class}
 use Rattle.hr_base.specs.declared.lexeme.Item.{Item}
@@ -26,7 +26,7 @@ use Rattle.hr_tree.specs.declared.modules.Alias.{Alias}
 use Rattle.hr_tree.specs.declared.modules.ImportNames.{ImportNames}
 use Rattle.hr_tree.specs.declared.modules.Imported.{Imported}
 use Rattle.hr_tree.specs.declared.modules.Header.{Header}
-use Rattle.hr_tree.specs.Names.{maybe_item, maybe_operator, variable_items, constructor_items, operator_items}
+use Rattle.hr_tree.specs.Names.{maybe_operator, variable_items, constructor_items, operator_items}
 use Rattle.hr_tree.specs.Lists.{operand_items}
 use Rattle.hr_tree.specs.Yields.{ty_layer, ty_items, pat_layer, pat_items, type_head_items, construction_items, left_head_items, closed_items, left_side_items, maybe_members, export_items, imported_items, name_list_items, maybe_alias, maybe_import_names, import_items, maybe_exports, header_items}
 use Rattle.hr_tree.proofs.TypeYields.{ty_apply, ty_tuple}

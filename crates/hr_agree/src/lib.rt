@@ -3,4 +3,5 @@
 #![tactic(auto)]
 
 mod laws;
+
 pub use laws::{modules_are_derived, yielded_is_derived};
