@@ -1,6 +1,6 @@
 -- What is needed of a stretch of a text for a reading to take it: its items, its blocks, which stand as the layout
 -- rule says, and its lexemes, which go on in the nearest block or stand in another one.
-use Rattle.std.proofs.Common.{◌≡◌, ◌⊎◌, ◌≤◌, ◌<◌, ℕ, zero, suc, ◌+◌, Bool, true, false, List, [], ◌∷◌, ◌++◌, length, drop, refl, sym, ap, ap₂, ◌∙◌, subst, inl, inr, arith, drop-drop}
+use Rattle.std.proofs.Common.{◌≡◌, ◌⊎◌, ◌≤◌, ◌<◌, ℕ, zero, suc, ◌+◌, Bool, true, false, List, [], ◌∷◌, ◌++◌, length, drop, refl, sym, ap, ap₂, ◌∙◌, subst, inl, inr, arith, add_assoc, drop-drop}
 use Rattle.hr_base.specs.declared.lexeme.Class.{Class}
 use Rattle.hr_base.specs.declared.lexeme.Ending.{Ending}
 use Rattle.hr_base.specs.declared.lexeme.Item.{Item}
@@ -14,7 +14,8 @@ use Rattle.hr_derives.specs.Readings.{Reading, nothing, takes, ◌▷◌, given,
 use Rattle.hr_derives.specs.Laws.{items_left}
 use Rattle.hr_derives.proofs.Readings.{append_assoc}
 use Rattle.hr_derives.proofs.Stretches.{beside, bare_then, Has, has_either, has_first, has_second, is_empty_at, Text, lexemes, mark_or, seen, Next, lexemes_at, seen_plain}
-use Rattle.hr_derives.proofs.Standing.{GoesAt, least, least_next, Within, before, still, still_both, still_opens, Known, known_first, known_second, opens_known, opens_within, both_within, sum_after}
+use Rattle.hr_derives.proofs.Standing.{GoesAt, least, least_next, Within, before, still, still_both, Known, known_first, known_second, both_within}
+use Rattle.hr_derives.proofs.StandingLexemes.{still_opens, opens_known, opens_within}
 use Rattle.hr_agree.proofs.Retaken.{Retakes}
 
 -- ---- items
@@ -217,7 +218,7 @@ then_regains {text} {n} {opened} {a} {b} {items} {others} {first} {second} cut g
     seen text (still opened begun a.extent) (start + a.extent),
     g.regains begun start (others ++ rest) (given_first items others rest a b cut (h.within (start + a.extent)) (λ i l x. x) k),
     subst (λ us. second (seen text (still opened begun a.extent) (start + a.extent)) us)
-        (ap₂ (λ (m : Bool) (i : ℕ). seen text m i) (still_both opened begun a.extent b.extent) (sum_after start a.extent b.extent))
+        (ap₂ (λ (m : Bool) (i : ℕ). seen text m i) (still_both opened begun a.extent b.extent) (add_assoc start a.extent b.extent))
         (h.regains (still opened begun a.extent) (start + a.extent) rest (given_second items others rest a b g.size (g.within start) (λ i l x. moved opened begun start a.extent i l x.0 x.1) k)),
   );
 }
@@ -333,10 +334,7 @@ opens_regains {text} {n} {b} {items} {second} Is word is h = record {
           (word_goes text n begun start b.extent (b.blocks n (start + 1)) (h.within (start + 1)) (k.each start (omega arith) (omega arith))) refl,
     ),
     subst (λ us. second (drop (start + 1) text.placed) us)
-        (ap₂ (λ (m : Bool) (i : ℕ). seen text m i) (sym (still_opens begun b.extent)) (sum_opens start b.extent))
+        (ap₂ (λ (m : Bool) (i : ℕ). seen text m i) (sym (still_opens begun b.extent)) (add_assoc start 1 b.extent))
         (h.regains false (start + 1) rest (given_opened word b k)),
   );
 }
-  where
-    sum_opens : (s f : ℕ) → (s + 1) + f ≡ s + (1 + f)
-    sum_opens s f = omega arith

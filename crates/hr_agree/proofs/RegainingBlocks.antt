@@ -23,7 +23,8 @@ use Rattle.hr_derives.specs.Laws.{items_left}
 use Rattle.hr_derives.proofs.Stretches.{Has, has_first, is_empty_at, Text, lexemes, mark_or, seen, Next, lexemes_at, seen_plain, seen_empty}
 use Rattle.hr_derives.proofs.Standing.{GoesAt, Within, still_none}
 use Rattle.hr_derives.proofs.StandingPieces.{laids, pieces_laid, stretches, last_is}
-use Rattle.hr_derives.proofs.StandingBlocks.{block_by, the_span, implicit_block, explicit_block, in_braces, with_layout, column_in, none_over, none_more, none_at_start, implicit_known, later_known, empty_mark, in_block, same_within}
+use Rattle.hr_derives.proofs.StandingPoints.{with_layout, column_in}
+use Rattle.hr_derives.proofs.StandingBlocks.{block_by, the_span, implicit_block, explicit_block, in_braces, none_over, none_at_start, implicit_known, later_known, empty_mark, in_block, same_within}
 use Rattle.hr_agree.proofs.Regaining.{NoBrace, text_firm, sum_size, Covered, BeginsAt, Given, Regains, then_regains, one_regains, one_then_regains}
 use Rattle.hr_agree.proofs.RegainingPieces.{PartsRegain, EndsAlike, PiecesFit, pieces_firm, pieces_size, pieces_lie, PieceAt, Closes, pieces_regain, braced_regain}
 
@@ -166,6 +167,9 @@ ends_there : (text : Text) (n : ℕ) (kind : BlockKind) (ending : Ending) (i : �
 ends_there text n kind ending i e = ends_seen n kind ending text.spans i (drop i text.placed) (subst (λ l. ends_block n kind ending l ≡ true) (lexemes_at text i) e)
 
 -- ---- a block without braces that has a column of its own
+none_more : (k : ℕ) → k + 0 ≡ k
+none_more k = omega arith
+
 other_start : (start extent : ℕ) (kind : BlockKind) (m : ℕ) (block : Block Laid) (spans : List Span) (span : Span) → suc start ≤ span.start → Has (the_span kind m start block ∷ spans) span → Has spans span
 other_start start extent kind m block spans span l (inl same) = let e : start ≡ span.start = ap (λ (s : Span). s.start) same in let no : ⊥ = omega arith in elim no [ ]
 other_start start extent kind m block spans span l (inr has) = has

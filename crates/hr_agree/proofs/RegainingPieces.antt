@@ -1,5 +1,5 @@
 -- The pieces of a block: where they stand as the layout rule says, they are read.
-use Rattle.std.proofs.Common.{◌≡◌, ◌≢◌, ◌⊎◌, ◌≤◌, ◌<◌, ℕ, zero, suc, ◌+◌, ◌==◌, ◌||◌, ◌&&◌, not, nat_lt, Bool, true, false, List, [], ◌∷◌, ◌++◌, length, drop, refl, sym, ap, ◌∙◌, subst, inl, inr, arith, eqb-true, ne_eqb, ltb-true, drop-drop}
+use Rattle.std.proofs.Common.{◌≡◌, ◌≢◌, ◌⊎◌, ◌≤◌, ◌<◌, ℕ, zero, suc, ◌+◌, ◌==◌, ◌||◌, ◌&&◌, not, nat_lt, Bool, true, false, List, [], ◌∷◌, ◌++◌, length, drop, refl, sym, ap, ◌∙◌, subst, inl, inr, arith, add_assoc, eqb-true, ne_eqb, ltb-true, drop-drop}
 use Rattle.std.specs.List.{flat_map, list_any}
 use lib.Chars.{codes}
 use Rattle.hr_base.specs.declared.lexeme.Class.{Class}
@@ -21,7 +21,7 @@ use Rattle.hr_derives.specs.Blocks.{Parts, takes_semicolon, pieces_reading, brac
 use Rattle.hr_derives.specs.Laws.{items_left}
 use Rattle.hr_derives.proofs.Readings.{append_assoc}
 use Rattle.hr_derives.proofs.Stretches.{Has, is_empty_at, Text, lexemes, mark_or, seen, Next, lexemes_at, seen_plain, seen_begun}
-use Rattle.hr_derives.proofs.Standing.{GoesAt, Within, known_first, in_second, both_within, sum_after}
+use Rattle.hr_derives.proofs.Standing.{GoesAt, Within, known_first, in_second, both_within}
 use Rattle.hr_derives.proofs.StandingPieces.{laids, pieces_laid, stretches, AtLeast, margin_least, still_ended, last_from}
 use Rattle.hr_agree.proofs.Regaining.{Firm, text_firm, nothing_firm, both_firm, sum_size, Held, BeginsAt, Given, Regains, through, ending_regains, given_first, given_second, then_regains, one_regains, nothing_regains, next_seen, the_first}
 
@@ -229,7 +229,7 @@ pieces_regain {text = text} {of = of} {items_of = items_of} {parts = parts} {Fit
     let later = given_second {Second = PieceAt text n (start + 1) (stretches of pieces)} (item ∷ []) (flat_map (piece_items items_of) pieces) rest (record { extent = 1; ending = Ending.Nothing; blocks = λ m s. [] }) others refl
     (λ span has. elim has [ ]) (λ i l x. (x.0, begins_later (stretches of pieces) start 1 i (one_more_none 0) l x.1)) k in
     let none = (known_first {f = others.extent} [] (others.blocks n (start + 1)) (pieces_lie p n place pieces fit.1 (start + 1)) k.known).marks (start + 1) (omega arith) (omega arith) in
-    let same = sum_after start 1 others.extent in (
+    let same = add_assoc start 1 others.extent in (
       seen text false (start + 1),
       (fit.0, semicolon_here text n item (flat_map (piece_items items_of) pieces ++ rest) start (seen text false (start + 1)) k.items_are least (sym (seen_plain text (start + 1) none))),
       subst (λ i. pieces_reading parts kind n place Ending.Nothing pieces (seen text false (start + 1)) (seen text false i)) same
@@ -253,7 +253,7 @@ pieces_regain {text = text} {of = of} {items_of = items_of} {parts = parts} {Fit
     let here = subst (λ (b : Bool). parts n place next part r.0 (seen text true start) (seen text b (start + (of part).extent))) (still_ended (of part).extent some) r.1 in
     let behind = margin_behind n (of part).extent (stretches of pieces) (drop start (lexemes text)) begin in
     let to = drop-drop (of part).extent start (lexemes text) in
-    let same = sum_after start (of part).extent others.extent in (
+    let same = add_assoc start (of part).extent others.extent in (
       seen text true start,
       (
         starts_here text n ending (items_of part) (flat_map (piece_items items_of) pieces ++ rest) start (of part).extent (stretches of pieces) begun (k.items_are ∙ append_assoc (items_of part) (flat_map (piece_items items_of) pieces) rest) least ready,

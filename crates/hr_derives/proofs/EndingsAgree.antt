@@ -1,5 +1,5 @@
 -- The stretch of an expression, a declaration and an alternative has a lexeme and ends as the tree is read.
-use Rattle.std.proofs.Common.{◌≡◌, ◌≢◌, ◌+◌, ℕ, zero, suc, Bool, true, false, if◌then◌else◌, List, [], ◌∷◌, map, Option, Some, None, refl, sym, ap, ◌∙◌, subst, arith, ne_eqb}
+use Rattle.std.proofs.Common.{◌≡◌, ◌≢◌, ◌+◌, ℕ, zero, suc, Bool, true, false, if◌then◌else◌, List, [], ◌∷◌, map, Option, Some, None, refl, sym, ap, ◌∙◌, subst, suc-ne-zero, arith, ne_eqb}
 use Rattle.hr_base.specs.declared.lexeme.Ending.{Ending}
 use Rattle.hr_base.specs.declared.lexeme.Item.{Item}
 use Rattle.hr_rules.specs.declared.block.BlockKind.{BlockKind}
@@ -60,22 +60,19 @@ then_ends first {second} h = record {
 alone_ends : {laid : Laid} {ending : Ending} → EndsAs laid ending → EndsAs (beside laid (bare [])) ending
 alone_ends {laid} h = record { some = sum_first laid.extent 0 h.some; ends = h.ends }
 
-one_not_none : (n : ℕ) → suc n ≢ 0
-one_not_none n = λ e. omega arith
-
 one_ends : (item : Item) → EndsAs (one_laid item) applied
-one_ends item = record { some = one_not_none 0; ends = refl }
+one_ends item = record { some = suc-ne-zero 0; ends = refl }
 
 variable_ends : (variable : Variable) → EndsAs (bare (variable_items variable)) applied
-variable_ends (Variable.Name name) = record { some = one_not_none 0; ends = refl }
-variable_ends (Variable.Symbol left symbol right) = record { some = one_not_none 2; ends = refl }
+variable_ends (Variable.Name name) = record { some = suc-ne-zero 0; ends = refl }
+variable_ends (Variable.Symbol left symbol right) = record { some = suc-ne-zero 2; ends = refl }
 
 constructor_ends : (constructor : Constructor) → EndsAs (bare (constructor_items constructor)) applied
-constructor_ends (Constructor.Name name) = record { some = one_not_none 0; ends = refl }
-constructor_ends (Constructor.Symbol left symbol right) = record { some = one_not_none 2; ends = refl }
-constructor_ends (Constructor.Unit left right) = record { some = one_not_none 1; ends = refl }
-constructor_ends (Constructor.EmptyList left right) = record { some = one_not_none 1; ends = refl }
-constructor_ends (Constructor.Tuple left commas right) = record { some = one_not_none _; ends = refl }
+constructor_ends (Constructor.Name name) = record { some = suc-ne-zero 0; ends = refl }
+constructor_ends (Constructor.Symbol left symbol right) = record { some = suc-ne-zero 2; ends = refl }
+constructor_ends (Constructor.Unit left right) = record { some = suc-ne-zero 1; ends = refl }
+constructor_ends (Constructor.EmptyList left right) = record { some = suc-ne-zero 1; ends = refl }
+constructor_ends (Constructor.Tuple left commas right) = record { some = suc-ne-zero _; ends = refl }
 
 -- a declaration that stands in a module's body alone ends otherwise than it is read: nothing stands behind the body
 pub record AllEnd (below : Derivations) : Type 0 where
@@ -229,7 +226,7 @@ same_some e h = subst (λ (l : Laid). l.extent ≢ 0) (sym e) h
 
 decl_some : (below : Derivations) → AllEnd below → (n : ℕ) (place : DeclPlace) (layer : Decl-F Decl Exp Qualifier Alt) (ending : Ending) (ts us : List Placed)
     → decl_reading below n place layer ending ts us → (laid_decl (roll-Decl layer)).extent ≢ 0
-decl_some below each n place (Decl-F.Import import) ending ts us r = same_some (fold-roll-Decl Laid Laid Laid Laid decl_laid exp_laid qualifier_laid alt_laid (Decl-F.Import import)) (one_not_none _)
+decl_some below each n place (Decl-F.Import import) ending ts us r = same_some (fold-roll-Decl Laid Laid Laid Laid decl_laid exp_laid qualifier_laid alt_laid (Decl-F.Import import)) (suc-ne-zero _)
 decl_some below each n place (Decl-F.Synonym word head equals ty) ending ts us r = same_some (fold-roll-Decl Laid Laid Laid Laid decl_laid exp_laid qualifier_laid alt_laid (Decl-F.Synonym word head equals ty)) (one_more _)
 decl_some below each n place (Decl-F.Data word head equals constructions) ending ts us r = same_some (fold-roll-Decl Laid Laid Laid Laid decl_laid exp_laid qualifier_laid alt_laid (Decl-F.Data word head equals constructions)) (one_more _)
 decl_some below each n place (Decl-F.Newtype word head equals construction) ending ts us r = same_some (fold-roll-Decl Laid Laid Laid Laid decl_laid exp_laid qualifier_laid alt_laid (Decl-F.Newtype word head equals construction)) (one_more _)

@@ -19,8 +19,10 @@ pub mod Standing
 pub mod StandingBlocks
 pub mod StandingDeclarations
 pub mod StandingExpressions
+pub mod StandingLexemes
 pub mod StandingModules
 pub mod StandingPieces
+pub mod StandingPoints
 pub mod StandingTrees
 pub mod Stops
 pub mod Stretches

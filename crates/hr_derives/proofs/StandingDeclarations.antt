@@ -32,7 +32,8 @@ use Rattle.hr_derives.proofs.Taken.{AllTake, separated_takes, spelled_takes, may
 use Rattle.hr_derives.proofs.Heads.{type_head_takes, construction_takes, new_construction_takes, left_side_takes}
 use Rattle.hr_derives.proofs.Imports.{import_takes}
 use Rattle.hr_derives.proofs.Stretches.{beside, Text}
-use Rattle.hr_derives.proofs.Standing.{Stands, same_stands, never_stands, given_stands, ending_stands, inside_stands, ends_as_stands, then_stands, one_stands, taken_stands, opens_stands}
+use Rattle.hr_derives.proofs.Standing.{Stands, same_stands, never_stands, given_stands, ending_stands, inside_stands, ends_as_stands, then_stands}
+use Rattle.hr_derives.proofs.StandingLexemes.{one_stands, taken_stands, opens_stands}
 use Rattle.hr_derives.proofs.StandingBlocks.{block_by}
 use Rattle.hr_derives.proofs.StandingTrees.{laid_exp, laid_decl, laid_alt, AllStand, guards_laid, guarded_by, pieces_turned, alone_stands}
 

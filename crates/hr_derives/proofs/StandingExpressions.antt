@@ -27,7 +27,8 @@ use Rattle.hr_derives.specs.Derivations.{Derivations}
 use Rattle.hr_derives.specs.Expressions.{applied, closed, annotated, exp_operands, qualifier_reading, qualifier_over, atom_reading, exp_reading, exp_over}
 use Rattle.hr_derives.proofs.Taken.{AllTake, in_turn_takes, spelled_takes, maybe_one_takes, operator_there_takes}
 use Rattle.hr_derives.proofs.Stretches.{beside, Text}
-use Rattle.hr_derives.proofs.Standing.{Stands, same_stands, never_stands, given_stands, ending_stands, inside_stands, then_stands, nothing_stands, one_stands, all_stand, taken_stands, in_turn_stands, opens_stands}
+use Rattle.hr_derives.proofs.Standing.{Stands, same_stands, never_stands, given_stands, ending_stands, inside_stands, then_stands}
+use Rattle.hr_derives.proofs.StandingLexemes.{nothing_stands, one_stands, all_stand, taken_stands, in_turn_stands, opens_stands}
 use Rattle.hr_derives.proofs.StandingBlocks.{block_by}
 use Rattle.hr_derives.proofs.StandingTrees.{laid_exp, laid_decl, laid_qualifier, laid_alt, AllStand, operands_laid, pieces_turned, through, separated_stands}
 

@@ -1,5 +1,5 @@
 -- The blocks of a module that is read stand as the layout rule says.
-use Rattle.std.proofs.Common.{◌≡◌, ◌+◌, ℕ, zero, suc, true, false, List, [], ◌∷◌, length, drop, refl, sym, ap, ◌∙◌, subst, arith, drop-drop}
+use Rattle.std.proofs.Common.{◌≡◌, ◌+◌, ℕ, zero, suc, true, false, List, [], ◌∷◌, length, drop, refl, sym, ap, ◌∙◌, subst, zero-add, one-add, drop-drop}
 use Rattle.hr_base.specs.declared.lexeme.Item.{Item}
 use Rattle.hr_rules.specs.declared.block.BlockKind.{BlockKind}
 use Rattle.hr_rules.specs.declared.block.Placed.{Placed}
@@ -15,7 +15,7 @@ use Rattle.hr_grammar.specs.Yields.{nesting_limit}
 use Rattle.hr_derives.specs.Readings.{takes, take_all}
 use Rattle.hr_derives.specs.Derivations.{Derivations}
 use Rattle.hr_derives.specs.Modules.{comes_behind, decl_parts, alt_parts, derivations, Derives}
-use Rattle.hr_derives.specs.Laws.{EndingsAreSome, ModulesStand}
+use Rattle.hr_derives.specs.Laws.{EndingsAreSome, ModulesStand, ModulesYield}
 use Rattle.hr_derives.proofs.Endings.{parts_end_lem}
 use Rattle.hr_derives.proofs.Imports.{header_takes}
 use Rattle.hr_derives.proofs.Modules.{levels_take, modules_give_lem}
@@ -80,13 +80,10 @@ taken_behind : (n : ℕ) (item : Item) (ts us : List Placed) → takes n item ts
 taken_behind n item [] us r = elim r [ ]
 taken_behind n item (next ∷ ts) us r = r.2
 
-pub all_behind : (n : ℕ) (items : List Item) (ts us : List Placed) → take_all n items ts us → us ≡ drop (length items) ts
+all_behind : (n : ℕ) (items : List Item) (ts us : List Placed) → take_all n items ts us → us ≡ drop (length items) ts
 all_behind n [] ts us r = r
 all_behind n (item ∷ items) ts us r =
-    all_behind n items r.0 us r.2 ∙ ap (λ l. drop (length items) l) (taken_behind n item ts r.0 r.1) ∙ drop-drop (length items) 1 ts ∙ ap (λ k. drop k ts) (one_more (length items))
-  where
-    one_more : (k : ℕ) → 1 + k ≡ suc k
-    one_more k = omega arith
+    all_behind n items r.0 us r.2 ∙ ap (λ l. drop (length items) l) (taken_behind n item ts r.0 r.1) ∙ drop-drop (length items) 1 ts ∙ ap (λ k. drop k ts) (one-add (length items))
 
 -- the blocks of a module are those of its body
 abbrev pub body_spans : Module → List Span
@@ -112,16 +109,10 @@ module_stands levels tree d =
     let start = length (header_items tree.header) in
     let here = all_behind 0 (header_items tree.header) (placed_of (module_items tree)) d.0 ((header_takes tree.header).takes_all (placed_of (module_items tree)) d.0 d.1) in
     all_are (StandsWell (spans_of tree) (lexemes text)) (spans_of tree)
-    (λ span has. body_stands levels text tree.body (0 + start) d.0 (spans_are tree) (here ∙ ap (λ k. drop k (placed_of (module_items tree))) (none_before start)) d.2 span (subst (λ l. Has l span) (spans_are tree) has))
-  where
-    none_before : (k : ℕ) → k ≡ 0 + k
-    none_before k = omega arith
-
-stands_lem : (levels : ℕ) (tree : Module) (items : List Item) → Derives levels tree items → Offside tree
-stands_lem levels tree items d = module_stands levels tree (subst (λ l. Derives levels tree l) (modules_give_lem levels tree items d) d)
+    (λ span has. body_stands levels text tree.body (0 + start) d.0 (spans_are tree) (here ∙ ap (λ k. drop k (placed_of (module_items tree))) (sym (zero-add start))) d.2 span (subst (λ l. Has l span) (spans_are tree) has))
 
 pub modules_stand_lem : ModulesStand
-modules_stand_lem = record {
-  stands = stands_lem;
-  yields = λ tree items d. (modules_are_lem.yields tree items d, stands_lem nesting_limit tree items d);
-}
+modules_stand_lem levels tree items d = module_stands levels tree (subst (λ l. Derives levels tree l) (modules_give_lem levels tree items d) d)
+
+pub modules_yield_lem : ModulesYield
+modules_yield_lem tree items d = (modules_are_lem.yields tree items d, modules_stand_lem nesting_limit tree items d)

@@ -1,7 +1,7 @@
 -- The pieces of a block without braces: points 2 and 3 of the layout rule, and the ending of the last one.
-use Rattle.std.proofs.Common.{◌≡◌, ◌≢◌, ◌⊎◌, ◌≤◌, ◌<◌, ℕ, zero, suc, ◌+◌, ◌==◌, ◌||◌, ◌&&◌, Bool, true, false, List, [], ◌∷◌, map, length, drop, refl, sym, ap, ◌∙◌, subst, inl, inr, arith, eq-eqb, drop-drop}
+use Rattle.std.proofs.Common.{◌≡◌, ◌≢◌, ◌⊎◌, ◌≤◌, ◌<◌, ℕ, zero, suc, ◌+◌, ◌==◌, ◌||◌, ◌&&◌, Bool, true, false, List, [], ◌∷◌, map, drop, refl, sym, ap, ◌∙◌, subst, inl, inr, add-zero, add_assoc, arith, eq-eqb, drop-drop}
 use Rattle.std.specs.List.{list_any}
-use Rattle.std.proofs.lemmas.Bool.{not-true}
+use Rattle.std.proofs.lemmas.Bool.{not-true, or_left, or_right}
 use Rattle.hr_base.specs.declared.lexeme.Ending.{Ending}
 use Rattle.hr_base.specs.declared.lexeme.Item.{Item}
 use Rattle.hr_rules.specs.declared.block.BlockKind.{BlockKind}
@@ -15,7 +15,8 @@ use Rattle.hr_grammar.specs.Offside.{IsAtMargin, PartsBegin, begins, placed_amon
 use Rattle.hr_derives.specs.Blocks.{Parts, takes_semicolon, pieces_reading}
 use Rattle.hr_derives.proofs.Stops.{starts_at}
 use Rattle.hr_derives.proofs.Stretches.{beside, Has, has_either, is_empty_at, Text, lexemes, mark_or, seen, Next, lexemes_at, next_in, seen_plain, seen_begun, before_or_behind}
-use Rattle.hr_derives.proofs.Standing.{Right, wider, Within, still, Known, Stands, Standing, in_second, known_first, known_second, both_within, sum_moves, sum_after, none_between, took}
+use Rattle.hr_derives.proofs.Standing.{Right, wider, Within, still, Known, Stands, Standing, in_second, known_first, known_second, both_within}
+use Rattle.hr_derives.proofs.StandingLexemes.{none_between, took}
 
 -- the pieces, by where their parts lie
 abbrev pub piece_by : {T : Type 0} → (T → Laid) → Piece T → Piece Laid
@@ -37,32 +38,7 @@ pub record PartsStand {T : Type 0} (text : Text) (of : T → Laid) (parts : Part
   pub some : (n : ℕ) (place next : DeclPlace) (part : T) (ending : Ending) (ts us : List Placed) → parts n place next part ending ts us → (of part).extent ≢ 0
   pub ends : (n : ℕ) (place next : DeclPlace) (part : T) (ending : Ending) (ts us : List Placed) → parts n place next part ending ts us → ending ≢ Ending.Nothing
 
--- ---- how many lexemes, and where the blocks lie
-pub mark_length : (first : Bool) (ts : List Placed) → length (mark first ts) ≡ length ts
-mark_length first [] = refl
-mark_length first (next ∷ ts) = refl
-
-semicolon_moves : (n : ℕ) (item : Item) (ts us : List Placed) → takes_semicolon n item ts us → length ts ≡ 1 + length us
-semicolon_moves n item [] us r = elim r [ ]
-semicolon_moves n item (next ∷ ts) us r = ap (λ (l : List Placed). suc (length l)) (sym r.2) ∙ one_before (length us)
-  where
-    one_before : (u : ℕ) → suc u ≡ 1 + u
-    one_before u = omega arith
-
-none_before : (u : ℕ) → u ≡ 0 + u
-none_before u = omega arith
-
-pub pieces_move : {T : Type 0} {text : Text} {of : T → Laid} {parts : Parts T} → PartsStand text of parts → (kind : BlockKind) (n : ℕ) (place : DeclPlace) (ending : Ending) (pieces : List (Piece T))
-    (ts us : List Placed) → pieces_reading parts kind n place ending pieces ts us → length ts ≡ (pieces_laid of pieces).extent + length us
-pieces_move p kind n place ending [] ts us r = ap length (sym r.1) ∙ none_before (length us)
-pieces_move {of = of} p kind n place ending (Piece.Semicolon item ∷ pieces) ts us r =
-    sum_moves 1 (pieces_laid of pieces).extent (length ts) (length r.0) (length us) (semicolon_moves n item ts r.0 r.1.1) (pieces_move p kind n place Ending.Nothing pieces r.0 us r.2)
-pieces_move {of = of} p kind n place ending (Piece.Part part ∷ pieces) ts us r =
-    let next = r.2.0 in let end = r.2.1 in
-    sum_moves (of part).extent (pieces_laid of pieces).extent (length ts) (length r.2.2.0) (length us)
-    (sym (mark_length false ts) ∙ ap length (sym r.1.1) ∙ (p.stands n place next part end).moves r.0 r.2.2.0 r.2.2.1)
-    (pieces_move p kind n next end pieces r.2.2.0 us r.2.2.2)
-
+-- ---- where the blocks lie
 pub pieces_within : {T : Type 0} {text : Text} {of : T → Laid} {parts : Parts T} → PartsStand text of parts → (kind : BlockKind) (n : ℕ) (place : DeclPlace) (ending : Ending) (pieces : List (Piece T))
     (ts us : List Placed) → pieces_reading parts kind n place ending pieces ts us → (start : ℕ) (span : Span) → Has ((pieces_laid of pieces).blocks n start) span
     → Within false start (pieces_laid of pieces).extent span
@@ -141,37 +117,30 @@ pub record PiecesStanding (text : Text) (n start : ℕ) (laid : Laid) (pieces : 
   pub parts : PartsBegin n pieces (drop start (lexemes text))
 
 first_begins : (i start : ℕ) (rest : List ℕ) → i ≡ start → list_any (λ s. s == i) (start ∷ rest) ≡ true
-first_begins i start rest same = ap (λ t. t || list_any (λ s. s == i) rest) (eq-eqb start i (sym same))
-
-or_more : (a b : Bool) → b ≡ true → (a || b) ≡ true
-or_more true b e = refl
-or_more false b e = e
+first_begins i start rest same = or_left (start == i) (list_any (λ s. s == i) rest) (eq-eqb start i (sym same))
 
 -- what stands behind the first piece
 later : (text : Text) (n start e f : ℕ) (pieces : List Stretch) (i : ℕ)
     → Right text n (start + e) ((start + e) + f) i ⊎ (AtLeast text n i × (list_any (λ s. s == i) (begins (start + e) pieces) ≡ true))
     → Right text n start (start + (e + f)) i ⊎ (AtLeast text n i × (list_any (λ s. s == i) (start ∷ begins (start + e) pieces) ≡ true))
 later text n start e f pieces i (inl r) = inl (wider text n (start + e) ((start + e) + f) start (start + (e + f)) i (omega arith) (omega arith) r)
-later text n start e f pieces i (inr b) = inr (b.0, or_more (start == i) (list_any (λ s. s == i) (begins (start + e) pieces)) b.1)
+later text n start e f pieces i (inr b) = inr (b.0, or_right (start == i) (list_any (λ s. s == i) (begins (start + e) pieces)) b.1)
 
 begins_here : (text : Text) (n start : ℕ) (rest : List ℕ) (i : ℕ) → i ≡ start → AtLeast text n start → AtLeast text n i × (list_any (λ s. s == i) (start ∷ rest) ≡ true)
 begins_here text n start rest i same l = (subst (λ j. AtLeast text n j) (sym same) l, first_begins i start rest same)
 
 nothing_standing : (text : Text) (n start : ℕ) (ts us : List Placed) → us ≡ ts → ts ≡ seen text false start → PiecesStanding text n start (bare []) [] us
 nothing_standing text n start ts us u e = record {
-  after = u ∙ e ∙ ap (λ (i : ℕ). seen text false i) (same_start start);
+  after = u ∙ e ∙ ap (λ (i : ℕ). seen text false i) (sym (add-zero start));
   each = λ i l h. elim (none_between start i l h) [ ];
   blocks = λ span has. elim has [ ];
   parts = tt;
 }
-  where
-    same_start : (i : ℕ) → i ≡ i + 0
-    same_start i = omega arith
 
 semicolon_standing : (text : Text) (n start : ℕ) (laid : Laid) (pieces : List Stretch) (us : List Placed) → AtLeast text n start → PiecesStanding text n (start + 1) laid pieces us
     → PiecesStanding text n start (beside (record { extent = 1; ending = Ending.Nothing; blocks = λ m s. [] }) laid) (Stretch.Semicolon ∷ pieces) us
 semicolon_standing text n start laid pieces us l t = record {
-  after = t.after ∙ ap (λ (k : ℕ). seen text false k) (sum_after start 1 laid.extent);
+  after = t.after ∙ ap (λ (k : ℕ). seen text false k) (add_assoc start 1 laid.extent);
   each = λ i a h. by i a h (before_or_behind i (start + 1));
   blocks = t.blocks;
   parts = subst (PartsBegin n pieces) (sym (drop-drop 1 start (lexemes text))) t.parts;
@@ -186,7 +155,7 @@ part_standing : (text : Text) (n start : ℕ) (part laid : Laid) (pieces : List 
     → PiecesStanding text n (start + part.extent) laid pieces us → PartsBegin n (Stretch.Part part.extent ∷ pieces) (drop start (lexemes text))
     → PiecesStanding text n start (beside part laid) (Stretch.Part part.extent ∷ pieces) us
 part_standing text n start part laid pieces vs us l s t p = record {
-  after = t.after ∙ ap (λ (k : ℕ). seen text false k) (sum_after start part.extent laid.extent);
+  after = t.after ∙ ap (λ (k : ℕ). seen text false k) (add_assoc start part.extent laid.extent);
   each = λ i a h. by i a h (before_or_behind i (start + part.extent));
   blocks = λ span has. with_block span (has_either (part.blocks n start) (laid.blocks n (start + part.extent)) span has);
   parts = p;

@@ -21,7 +21,8 @@ use Rattle.hr_derives.specs.Readings.{Reading, one, take_all, separated}
 use Rattle.hr_derives.specs.Derivations.{Derivations}
 use Rattle.hr_derives.proofs.Taken.{one_there_takes}
 use Rattle.hr_derives.proofs.Stretches.{beside, Text}
-use Rattle.hr_derives.proofs.Standing.{Stands, nothing_stands, then_stands, taken_stands, all_stand}
+use Rattle.hr_derives.proofs.Standing.{Stands, then_stands}
+use Rattle.hr_derives.proofs.StandingLexemes.{nothing_stands, taken_stands, all_stand}
 use Rattle.hr_derives.proofs.StandingPieces.{laids}
 use Rattle.hr_derives.proofs.StandingBlocks.{block_by}
 
@@ -72,7 +73,7 @@ pieces_turned of turn s p (Piece.Part part ∷ pieces) = ap₂ (λ (q : Piece La
 
 -- a reading that says more than another one
 pub through : {text : Text} {n : ℕ} {opened : Bool} {laid : Laid} {first second : Reading} → ((ts us : List Placed) → second ts us → first ts us) → Stands text n opened laid first → Stands text n opened laid second
-through f s = record { moves = λ ts us r. s.moves ts us (f ts us r); within = λ ts us r. s.within ts us (f ts us r); stands = λ ts us r. s.stands ts us (f ts us r) }
+through f s = record { within = λ ts us r. s.within ts us (f ts us r); stands = λ ts us r. s.stands ts us (f ts us r) }
 
 -- a last part, behind which nothing stands
 pub alone_stands : {text : Text} {n : ℕ} {laid : Laid} {reading : Reading} → Stands text n false laid reading → Stands text n false (beside laid (bare [])) reading

@@ -1,6 +1,7 @@
 -- Blocks in a stretch of a text, and what the text's own lexemes are at a number.
-use Rattle.std.proofs.Common.{◌≡◌, ◌⊎◌, ◌≤◌, ◌<◌, ℕ, zero, suc, ◌+◌, ◌==◌, ◌||◌, ◌&&◌, Bool, true, false, if◌then◌else◌, List, [], ◌∷◌, ◌++◌, length, drop, refl, sym, ap, ap₂, ◌∙◌, subst, inl, inr, arith, ltb-true, ltb-false, ne_eqb, drop-drop, nat_lt}
+use Rattle.std.proofs.Common.{◌≡◌, ◌⊎◌, ◌≤◌, ◌<◌, ℕ, zero, suc, ◌+◌, ◌==◌, ◌||◌, ◌&&◌, Bool, true, false, if◌then◌else◌, List, [], ◌∷◌, ◌++◌, length, drop, refl, sym, ap, ap₂, ◌∙◌, subst, inl, inr, zero-add, add-zero, suc-add, add-suc, one-add, ltb-true, ltb-false, ne_eqb, drop-drop, nat_lt}
 use Rattle.std.specs.List.{AllByRecursion, list_any}
+use Rattle.std.proofs.lemmas.Bool.{and_right, or_right}
 use Rattle.hr_base.specs.declared.lexeme.Ending.{Ending}
 use Rattle.hr_base.specs.declared.lexeme.Item.{Item}
 use Rattle.hr_rules.specs.declared.block.Placed.{Placed}
@@ -14,11 +15,8 @@ beside first second = first ▷ second
 
 -- an item before others is a stretch of them all
 pub bare_then : (item : Item) (items : List Item) → beside (one item) (bare items) ≡ bare (item ∷ items)
-bare_then item items = (λ j. record { extent = one_more (length items) j; ending = either_way (length items == 0) j; blocks = λ m start. [] })
+bare_then item items = (λ j. record { extent = one-add (length items) j; ending = either_way (length items == 0) j; blocks = λ m start. [] })
   where
-    one_more : (k : ℕ) → 1 + k ≡ suc k
-    one_more k = omega arith
-
     either_way : (b : Bool) → (if b then Ending.Applied true false else Ending.Applied true false) ≡ Ending.Applied true false
     either_way true = refl
     either_way false = refl
@@ -64,23 +62,15 @@ empty_either [] second i = refl
 empty_either (x ∷ first) second i =
     ap (λ t. (is_left_empty x && (x.start == i)) || t) (empty_either first second i) ∙ or_three (is_left_empty x && (x.start == i)) (is_empty_at first i) (is_empty_at second i)
 
-and_false : (b : Bool) → (b && false) ≡ false
-and_false true = refl
-and_false false = refl
-
 pub or_false : (b : Bool) → (b || false) ≡ b
 or_false true = refl
 or_false false = refl
-
-pub or_true : (b : Bool) → (b || true) ≡ true
-or_true true = refl
-or_true false = refl
 
 pub none_empty : (spans : List Span) (i : ℕ) → ((span : Span) → Has spans span → span.start ≡ i → ⊥) → is_empty_at spans i ≡ false
 none_empty [] i apart = refl
 none_empty (x ∷ spans) i apart =
     ap₂ (λ (s t : Bool). (is_left_empty x && s) || t) (ne_eqb x.start i (apart x (inl refl))) (none_empty spans i (λ span h. apart span (inr h)))
-    ∙ ap (λ s. s || false) (and_false (is_left_empty x))
+    ∙ ap (λ s. s || false) (and_right (is_left_empty x) false refl)
 
 pub empty_first : (first second : List Span) (i : ℕ) → ((span : Span) → Has second span → span.start ≡ i → ⊥) → is_empty_at (first ++ second) i ≡ is_empty_at first i
 empty_first first second i apart = empty_either first second i ∙ ap (λ t. is_empty_at first i || t) (none_empty second i apart) ∙ or_false (is_empty_at first i)
@@ -112,22 +102,13 @@ abbrev pub Next : (Placed → Type 0) → List Placed → Type 0
 Next P [] = Unit {0}
 Next P (next ∷ rest) = P next
 
-sums : (i k : ℕ) → i + suc k ≡ suc i + k
-sums i k = omega arith
-
-none_more : (k : ℕ) → k ≡ 0 + k
-none_more k = omega arith
-
 drop_among : (spans : List Span) (i k : ℕ) (placed : List Placed) → drop i (placed_among spans k placed) ≡ placed_among spans (i + k) (drop i placed)
-drop_among spans zero k placed = ap (λ j. placed_among spans j placed) (none_more k)
+drop_among spans zero k placed = ap (λ j. placed_among spans j placed) (sym (zero-add k))
 drop_among spans (suc i) k [] = refl
-drop_among spans (suc i) k (next ∷ placed) = drop_among spans i (suc k) placed ∙ ap (λ j. placed_among spans j (drop i placed)) (sums i k)
-
-no_more : (i : ℕ) → i + 0 ≡ i
-no_more i = omega arith
+drop_among spans (suc i) k (next ∷ placed) = drop_among spans i (suc k) placed ∙ ap (λ j. placed_among spans j (drop i placed)) (add-suc i k ∙ sym (suc-add i k))
 
 pub lexemes_at : (text : Text) (i : ℕ) → drop i (lexemes text) ≡ placed_among text.spans i (drop i text.placed)
-lexemes_at text i = drop_among text.spans i 0 text.placed ∙ ap (λ j. placed_among text.spans j (drop i text.placed)) (no_more i)
+lexemes_at text i = drop_among text.spans i 0 text.placed ∙ ap (λ j. placed_among text.spans j (drop i text.placed)) (add-zero i)
 
 next_among : (P : Placed → Type 0) (spans : List Span) (i : ℕ) (placed : List Placed) → Next P (mark_or (is_empty_at spans i) placed) → Next P (placed_among spans i placed)
 next_among P spans i [] h = h
@@ -143,7 +124,7 @@ mark_none (next ∷ placed) = ap (λ (f : Bool). record { item = next.item; pos 
 
 mark_some : (placed : List Placed) → mark_or true placed ≡ mark true placed
 mark_some [] = refl
-mark_some (next ∷ placed) = ap (λ (f : Bool). record { item = next.item; pos = next.pos; first = f } ∷ placed) (or_true next.first)
+mark_some (next ∷ placed) = ap (λ (f : Bool). record { item = next.item; pos = next.pos; first = f } ∷ placed) (or_right next.first true refl)
 
 mark_over : (first empty : Bool) (placed : List Placed) → mark first (mark_or empty placed) ≡ mark first placed
 mark_over first empty [] = refl

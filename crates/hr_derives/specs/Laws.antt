@@ -111,8 +111,10 @@ pub record EndingsAreSome (read : Derivations) : Type 0 where
 abbrev pub PartsEnd : Type 0
 PartsEnd = (levels : ℕ) → EndingsAreSome (derivations levels)
 
--- the blocks of what is read as a module stand as the layout rule says; so a tree that is read within the limit on
--- nesting is yielded by the grammar, and stands
-pub record ModulesStand : Type 0 where
-  pub stands : (levels : ℕ) (tree : Module) (items : List Item) → Derives levels tree items → Offside tree
-  pub yields : (tree : Module) (items : List Item) → Derives nesting_limit tree items → Yields tree (record { list = items; tail = tree.tail }) × Offside tree
+-- the blocks of what is read as a module stand as the layout rule says
+abbrev pub ModulesStand : Type 0
+ModulesStand = (levels : ℕ) (tree : Module) (items : List Item) → Derives levels tree items → Offside tree
+
+-- what is read as a module within the limit on nesting is yielded by a tree of the grammar that stands so
+abbrev pub ModulesYield : Type 0
+ModulesYield = (tree : Module) (items : List Item) → Derives nesting_limit tree items → Yields tree (record { list = items; tail = tree.tail }) × Offside tree
