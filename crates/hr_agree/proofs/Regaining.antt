@@ -1,6 +1,8 @@
 -- What is needed of a stretch of a text for a reading to take it: its items, its blocks, which stand as the layout
 -- rule says, and its lexemes, which go on in the nearest block or stand in another one.
 use Rattle.std.proofs.Common.{◌≡◌, ◌⊎◌, ◌≤◌, ◌<◌, ℕ, zero, suc, ◌+◌, Bool, true, false, List, [], ◌∷◌, ◌++◌, length, drop, refl, sym, ap, ap₂, ◌∙◌, subst, inl, inr, arith, add_assoc, drop-drop}
+use Rattle.std.proofs.Math.Seq.{drop-append_seam}
+use Rattle.std.proofs.lemmas.List.{drop-map, length-append}
 use Rattle.hr_base.specs.declared.lexeme.Class.{Class}
 use Rattle.hr_base.specs.declared.lexeme.Ending.{Ending}
 use Rattle.hr_base.specs.declared.lexeme.Item.{Item}
@@ -43,32 +45,13 @@ nothing_firm rest nb = nb
 pub both_firm : (items others : List Item) → Firm items → Firm others → Firm (items ++ others)
 both_firm items others f g rest nb = subst NoBrace (sym (append_assoc items others rest)) (f (others ++ rest) (g rest nb))
 
-left_dropped : (k : ℕ) (ts : List Placed) → items_left (drop k ts) ≡ drop k (items_left ts)
-left_dropped zero ts = refl
-left_dropped (suc k) [] = refl
-left_dropped (suc k) (next ∷ ts) = left_dropped k ts
-
-drop_these : (items rest : List Item) → drop (length items) (items ++ rest) ≡ rest
-drop_these [] rest = refl
-drop_these (item ∷ items) rest = drop_these items rest
-
 -- the items behind those of a stretch
 pub items_behind : (text : Text) (start e : ℕ) (items rest : List Item) → e ≡ length items → items_left (drop start text.placed) ≡ items ++ rest → items_left (drop (start + e) text.placed) ≡ rest
 items_behind text start e items rest size are =
-    ap items_left (sym (drop-drop e start text.placed)) ∙ left_dropped e (drop start text.placed) ∙ ap₂ (λ (k : ℕ) (l : List Item). drop k l) size are ∙ drop_these items rest
+    ap items_left (sym (drop-drop e start text.placed)) ∙ sym (drop-map (λ next. next.item) e (drop start text.placed)) ∙ ap₂ (λ (k : ℕ) (l : List Item). drop k l) size are ∙ drop-append_seam items rest
 
 pub sum_size : (e f : ℕ) (items others : List Item) → e ≡ length items → f ≡ length others → e + f ≡ length (items ++ others)
-sum_size e f items others s t = ap₂ (λ (a b : ℕ). a + b) s t ∙ sym (both_lengths items others)
-  where
-    none_before : (k : ℕ) → k ≡ 0 + k
-    none_before k = omega arith
-
-    one_before : (a b : ℕ) → suc (a + b) ≡ suc a + b
-    one_before a b = omega arith
-
-    both_lengths : (xs ys : List Item) → length (xs ++ ys) ≡ length xs + length ys
-    both_lengths [] ys = none_before (length ys)
-    both_lengths (x ∷ xs) ys = ap (λ (k : ℕ). suc k) (both_lengths xs ys) ∙ one_before (length xs) (length ys)
+sum_size e f items others s t = ap₂ (λ (a b : ℕ). a + b) s t ∙ sym (length-append items others)
 
 -- ---- lexemes
 -- the lexeme of that number stands in one of the blocks

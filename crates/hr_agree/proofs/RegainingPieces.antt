@@ -22,6 +22,7 @@ use Rattle.hr_derives.specs.Laws.{items_left}
 use Rattle.hr_derives.proofs.Readings.{append_assoc}
 use Rattle.hr_derives.proofs.Stretches.{Has, is_empty_at, Text, lexemes, mark_or, seen, Next, lexemes_at, seen_plain, seen_begun}
 use Rattle.hr_derives.proofs.Standing.{GoesAt, Within, known_first, in_second, both_within}
+use Rattle.hr_derives.proofs.StandingPoints.{next_map}
 use Rattle.hr_derives.proofs.StandingPieces.{laids, pieces_laid, stretches, AtLeast, margin_least, still_ended, last_from}
 use Rattle.hr_agree.proofs.Regaining.{Firm, text_firm, nothing_firm, both_firm, sum_size, Held, BeginsAt, Given, Regains, through, ending_regains, given_first, given_second, then_regains, one_regains, nothing_regains, next_seen, the_first}
 
@@ -120,10 +121,6 @@ go_least : (first right left : Bool) → (right ≡ true → left ≡ false) →
 go_least true right left h e = h e
 go_least false right left h e = refl
 
-next_turn : (P Q : Placed → Type 0) (ts : List Placed) → ((next : Placed) → P next → Q next) → Next P ts → Next Q ts
-next_turn P Q [] each h = tt
-next_turn P Q (next ∷ ts) each h = each next h
-
 not_less : (a b : ℕ) → b < a → nat_lt a b ≡ false
 not_less a b l = by (nat_lt a b) refl
   where
@@ -133,7 +130,7 @@ not_less a b l = by (nat_lt a b) refl
 
 pub goes_least : (text : Text) (n i : ℕ) → GoesAt text n i → AtLeast text n i
 goes_least text n i g =
-    next_turn (λ next. goes_on n next ≡ true) (λ next. left_of n next ≡ false) (drop i (lexemes text))
+    next_map (λ next. goes_on n next ≡ true) (λ next. left_of n next ≡ false) (drop i (lexemes text))
     (λ next. go_least next.first (nat_lt n next.pos.col) (nat_lt next.pos.col n) (λ e. not_less next.pos.col n (ltb-true n next.pos.col e))) g
 
 first_least : (text : Text) (n start f : ℕ) (spans : List Span) (pieces : List Stretch) → ((span : Span) → Has spans span → Within false start f span)

@@ -40,7 +40,7 @@ stands_braced text block i b =
     (subst (λ s. is_braced (s ∷ []) block i ≡ true) same (one_braced block b.span i b.left b.right b.lowest b.highest b.behind b.before))
 
 -- ---- point 3
-next_map : (P Q : Placed → Type 0) (ts : List Placed) → ((next : Placed) → P next → Q next) → Next P ts → Next Q ts
+pub next_map : (P Q : Placed → Type 0) (ts : List Placed) → ((next : Placed) → P next → Q next) → Next P ts → Next Q ts
 next_map P Q [] each h = tt
 next_map P Q (next ∷ ts) each h = each next h
 
