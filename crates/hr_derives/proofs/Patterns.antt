@@ -22,7 +22,7 @@ use Rattle.hr_derives.specs.Modules.{derivations}
 use Rattle.hr_derives.specs.Laws.{PatternsGive}
 use Rattle.hr_derives.proofs.Taken.{Takes, taken_gives, same_takes, never_takes, then_takes, given_takes, taken_same, one_takes, spelled_takes, in_turn_takes, separated_takes, operand_takes, last_operand, operator_there_takes}
 
-no_minus : (items : List Item) (o : Operand Pat) → o.minus ≡ None → items ≡ maybe_item o.minus ++ items
+pub no_minus : (items : List Item) (o : Operand Pat) → o.minus ≡ None → items ≡ maybe_item o.minus ++ items
 no_minus items o e = sym (ap (λ m. maybe_item m ++ items) e)
 
 operands_take : (below : Derivations) → ((n : ℕ) (place : PatPlace) (pat : Pat) → Takes n (pat_items pat) (below.pat n place pat))

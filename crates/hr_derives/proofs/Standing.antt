@@ -118,7 +118,7 @@ pub ends_as_stands : {text : Text} {n : ℕ} {opened : Bool} {laid : Laid} (turn
 ends_as_stands turn s ending = record { within = λ ts us r. (s r.0).within ts us r.2; stands = λ ts us r. (s r.0).stands ts us r.2 }
 
 -- ---- one stretch behind another
-least_next : (opened : Bool) (start : ℕ) → least opened start ≤ suc start
+pub least_next : (opened : Bool) (start : ℕ) → least opened start ≤ suc start
 least_next true start = omega arith
 least_next false start = omega arith
 
@@ -146,7 +146,7 @@ pub still_none : (f : ℕ) → still false false f ≡ false
 still_none zero = refl
 still_none (suc f) = refl
 
-still_both : (opened begun : Bool) (e f : ℕ) → still false (still opened begun e) f ≡ still opened begun (e + f)
+pub still_both : (opened begun : Bool) (e f : ℕ) → still false (still opened begun e) f ≡ still opened begun (e + f)
 still_both true begun e f = still_none f
 still_both false begun zero f = ap (still false begun) (sym (zero-add f))
 still_both false begun (suc e) f = still_none f ∙ sym (ap (still false begun) (suc-add e f))

@@ -26,7 +26,7 @@ abbrev pub block_by : {T : Type 0} → (T → Laid) → Block T → Block Laid
 block_by of block = record { layout = block.layout; pieces = laids of block.pieces }
 
 -- the block itself, among its blocks the first one
-abbrev the_span : BlockKind → ℕ → ℕ → Block Laid → Span
+abbrev pub the_span : BlockKind → ℕ → ℕ → Block Laid → Span
 the_span kind m start block = record {
   layout = block.layout;
   kind = kind;
@@ -37,17 +37,17 @@ the_span kind m start block = record {
   ending = last_ending block.pieces;
 }
 
-abbrev implicit_block : {T : Type 0} → (T → Laid) → ℕ → List (Piece T) → Block Laid
+abbrev pub implicit_block : {T : Type 0} → (T → Laid) → ℕ → List (Piece T) → Block Laid
 implicit_block of col pieces = record { layout = Layout.Implicit col; pieces = laids of pieces }
 
-abbrev explicit_block : {T : Type 0} → (T → Laid) → Item → Item → List (Piece T) → Block Laid
+abbrev pub explicit_block : {T : Type 0} → (T → Laid) → Item → Item → List (Piece T) → Block Laid
 explicit_block of left right pieces = record { layout = Layout.Explicit left right; pieces = laids of pieces }
 
 -- ---- a block without braces that has a column of its own
 not_above : (m n : ℕ) → m < n → n ≤ m → ⊥
 not_above m n l h = omega arith
 
-none_over : (k : ℕ) → 0 + (k + 0) ≡ k
+pub none_over : (k : ℕ) → 0 + (k + 0) ≡ k
 none_over k = omega arith
 
 implicit_offside : {T : Type 0} (text : Text) (of : T → Laid) (kind : BlockKind) (m col start : ℕ) (pieces : List (Piece T)) (us : List Placed) → m < col → col ≡ column_of (drop start text.placed)
@@ -87,7 +87,7 @@ implicit_standing text of kind m col begun start pieces us l o p = record {
     by span (inr has) = p.blocks span (subst (λ k. Has ((pieces_laid of pieces).blocks col k) span) (add-zero start) has)
 
 -- no block starts where the pieces of this one begin
-none_at_start : (text : Text) (start extent : ℕ) (spans : List Span) → ((span : Span) → Has spans span → Within false start extent span) → is_empty_at spans start ≡ false
+pub none_at_start : (text : Text) (start extent : ℕ) (spans : List Span) → ((span : Span) → Has spans span → Within false start extent span) → is_empty_at spans start ≡ false
 none_at_start text start extent spans within = none_empty spans start (λ span has same. let b = (within span has).behind in omega arith)
 
 not_empty : (m n : ℕ) → m < n → nat_le n m ≡ false
@@ -98,7 +98,7 @@ not_empty m n l = by (nat_le n m) refl
     by false e = e
 
 -- the text's blocks that start in the block are the block itself, which is not left empty, and those in its pieces
-implicit_known : {T : Type 0} {text : Text} (of : T → Laid) (kind : BlockKind) (m col start : ℕ) (pieces : List (Piece T)) → m < col
+pub implicit_known : {T : Type 0} {text : Text} (of : T → Laid) (kind : BlockKind) (m col start : ℕ) (pieces : List (Piece T)) → m < col
     → Known text true start (block_laid kind (implicit_block of col pieces)).extent ((block_laid kind (implicit_block of col pieces)).blocks m start)
     → Known text true start (pieces_laid of pieces).extent ((pieces_laid of pieces).blocks col start)
 implicit_known {text = text} of kind m col start pieces l k = record {
@@ -107,7 +107,7 @@ implicit_known {text = text} of kind m col start pieces l k = record {
   among = λ span has. k.among span (inr (subst (λ s. Has ((pieces_laid of pieces).blocks col s) span) (sym (add-zero start)) has));
 }
 
-later_known : {text : Text} {start extent : ℕ} {spans : List Span} → Known text true start extent spans → Known text false start extent spans
+pub later_known : {text : Text} {start extent : ℕ} {spans : List Span} → Known text true start extent spans → Known text false start extent spans
 later_known k = record { marks = λ i a h. k.marks i (omega arith) h; among = k.among }
 
 implicit_there : {T : Type 0} {text : Text} {of : T → Laid} {parts : Parts T} → PartsStand text of parts → (kind : BlockKind) (m : ℕ) (place : DeclPlace) (col : ℕ) (pieces : List (Piece T)) (ts us : List Placed)
@@ -136,7 +136,7 @@ empty_offside text kind m col start laid none l c = record {
 abbrev empty_block : ℕ → Block Laid
 empty_block col = record { layout = Layout.Implicit col; pieces = [] }
 
-empty_mark : (m col start : ℕ) → col ≤ m → ((nat_le col m && (start == start)) || false) ≡ true
+pub empty_mark : (m col start : ℕ) → col ≤ m → ((nat_le col m && (start == start)) || false) ≡ true
 empty_mark m col start l = ap₂ (λ (a b : Bool). (a && b) || false) (le-leb col m l) (eq-eqb start start refl)
 
 empty_there : (text : Text) (kind : BlockKind) (m col : ℕ) (ts us : List Placed) → opens m ts ≡ Opened.Empty → col ≡ column_of ts → us ≡ mark true ts → (begun : Bool) (start : ℕ)
@@ -170,7 +170,7 @@ braced_stands p place begins (Piece.Part part ∷ pieces) =
     given_stands (begins ≡ true) (part_then_stands (λ next end. p.stands 0 place next part end) (λ next end. braced_stands p next false pieces))
 
 -- the braces and what is between them
-abbrev in_braces : {T : Type 0} → (T → Laid) → Item → Item → List (Piece T) → Laid
+abbrev pub in_braces : {T : Type 0} → (T → Laid) → Item → Item → List (Piece T) → Laid
 in_braces of left right pieces = beside (one_laid left) (beside (pieces_laid of pieces) (one_laid right))
 
 explicit_stands : {T : Type 0} {text : Text} {of : T → Laid} {parts : Parts T} → PartsStand text of parts → (m : ℕ) (place : DeclPlace) (left right : Item) (pieces : List (Piece T))
@@ -215,10 +215,10 @@ explicit_there {text = text} {of = of} p kind m place left right pieces ts us r 
 span_within : (start extent : ℕ) (span : Span) → span.start ≡ start → span.extent ≡ extent → Within true start extent span
 span_within start extent span s e = record { behind = omega arith; ends = omega arith }
 
-in_block : {start e f : ℕ} {span : Span} → e ≤ f → Within false start e span → Within true start f span
+pub in_block : {start e f : ℕ} {span : Span} → e ≤ f → Within false start e span → Within true start f span
 in_block l w = record { behind = omega (arith, w.behind); ends = omega (arith, w.ends) }
 
-same_within : (start extent : ℕ) (block span : Span) → block ≡ span → block.start ≡ start → block.extent ≡ extent → Within true start extent span
+pub same_within : (start extent : ℕ) (block span : Span) → block ≡ span → block.start ≡ start → block.extent ≡ extent → Within true start extent span
 same_within start extent block span same s e = subst (Within true start extent) same (span_within start extent block s e)
 
 implicit_within : {T : Type 0} {text : Text} {of : T → Laid} {parts : Parts T} → PartsStand text of parts → (kind : BlockKind) (m : ℕ) (place : DeclPlace) (col : ℕ) (pieces : List (Piece T))

@@ -76,13 +76,13 @@ in_turn_stands laid_of of each [] = nothing_stands
 in_turn_stands laid_of of each (x ∷ xs) = then_stands (each x) (in_turn_stands laid_of of each xs)
 
 -- ---- the word that opens a block
-opens_known : {text : Text} {start f : ℕ} {spans : List Span} → Known text false start (1 + f) spans → Known text true (start + 1) f spans
+pub opens_known : {text : Text} {start f : ℕ} {spans : List Span} → Known text false start (1 + f) spans → Known text true (start + 1) f spans
 opens_known {start = start} k = record { marks = λ i l h. k.marks i (omega arith) (omega arith); among = k.among }
 
-opens_within : {start f : ℕ} {span : Span} → Within true (start + 1) f span → Within false start (1 + f) span
+pub opens_within : {start f : ℕ} {span : Span} → Within true (start + 1) f span → Within false start (1 + f) span
 opens_within w = record { behind = omega (arith, w.behind); ends = omega (arith, w.ends) }
 
-still_opens : (begun : Bool) (f : ℕ) → still false begun (1 + f) ≡ false
+pub still_opens : (begun : Bool) (f : ℕ) → still false begun (1 + f) ≡ false
 still_opens begun f = ap (still false begun) (one-add f)
 
 opens_stand : (text : Text) (n : ℕ) (begun : Bool) (start : ℕ) (word : Item) (b : Laid) (us : List Placed) → Right text n start (start + 1) start ⊎ (begun ≡ true)

@@ -44,7 +44,7 @@ alt_parts_stand text below each ends some = record {
   ends = λ n place next alt ending ts us r. some.alt n alt ending ts us r.1;
 }
 
-stays_local : (next : DeclPlace) → comes_behind DeclPlace.Local next ≡ true → next ≡ DeclPlace.Local
+pub stays_local : (next : DeclPlace) → comes_behind DeclPlace.Local next ≡ true → next ≡ DeclPlace.Local
 stays_local DeclPlace.First e = let no : ⊥ = cc in elim no [ ]
 stays_local DeclPlace.Top e = let no : ⊥ = cc in elim no [ ]
 stays_local DeclPlace.Local e = refl
@@ -86,10 +86,10 @@ all_behind n (item ∷ items) ts us r =
     all_behind n items r.0 us r.2 ∙ ap (λ l. drop (length items) l) (taken_behind n item ts r.0 r.1) ∙ drop-drop (length items) 1 ts ∙ ap (λ k. drop k ts) (one-add (length items))
 
 -- the blocks of a module are those of its body
-abbrev body_spans : Module → List Span
+abbrev pub body_spans : Module → List Span
 body_spans tree = (block_laid BlockKind.Body (block_by laid_decl tree.body)).blocks 0 (0 + length (header_items tree.header))
 
-spans_are : (tree : Module) → spans_of tree ≡ body_spans tree
+pub spans_are : (tree : Module) → spans_of tree ≡ body_spans tree
 spans_are tree =
     ap (λ ps. (block_laid BlockKind.Body (record { layout = tree.body.layout; pieces = ps })).blocks 0 (0 + length (header_items tree.header)))
     (pieces_turned laid_decl piece_of (λ item. refl) (λ decl. refl) tree.body.pieces)

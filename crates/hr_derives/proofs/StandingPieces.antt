@@ -60,7 +60,7 @@ not_both true true e f = e
 not_both true false e f = let no : ⊥ = cc in elim no [ ]
 not_both false b e f = refl
 
-margin_least : (n : ℕ) (next : Placed) → at_margin n next ≡ true → left_of n next ≡ false
+pub margin_least : (n : ℕ) (next : Placed) → at_margin n next ≡ true → left_of n next ≡ false
 margin_least n next e = not_both (left_of n next) (at_margin n next) (margins n next).apart e
 
 start_least : (n : ℕ) (ending : Ending) (next : Placed) (rest : List Placed) → starts_part n ending (next ∷ rest) ≡ true → left_of n next ≡ false
@@ -175,7 +175,7 @@ part_standing text n start part laid pieces vs us l s t p = record {
     with_block span (inl c) = s.blocks span c
     with_block span (inr c) = t.blocks span c
 
-still_ended : (extent : ℕ) → extent ≢ 0 → still false true extent ≡ false
+pub still_ended : (extent : ℕ) → extent ≢ 0 → still false true extent ≡ false
 still_ended zero other = absurd (other refl)
 still_ended (suc extent) other = refl
 
@@ -204,7 +204,7 @@ pieces_stand {text = text} {of = of} {parts = parts} p kind n place ending (Piec
     (part_begins of parts text kind n next end pieces vs us r.2.2.2 (p.ends n place next part end r.0 vs r.2.2.1) start (of part).extent here t.parts)
 
 -- ---- the ending of the last piece
-abbrev last_from : Ending → List (Piece Laid) → Ending
+abbrev pub last_from : Ending → List (Piece Laid) → Ending
 last_from ending [] = ending
 last_from ending (piece ∷ pieces) = last_from (piece_laid piece).ending pieces
 
@@ -212,7 +212,7 @@ last_any : (ending : Ending) (piece : Piece Laid) (pieces : List (Piece Laid)) �
 last_any ending piece [] = refl
 last_any ending piece (next ∷ pieces) = last_any (piece_laid piece).ending next pieces
 
-last_is : (pieces : List (Piece Laid)) → last_from Ending.Nothing pieces ≡ last_ending pieces
+pub last_is : (pieces : List (Piece Laid)) → last_from Ending.Nothing pieces ≡ last_ending pieces
 last_is [] = refl
 last_is (piece ∷ pieces) = last_any Ending.Nothing piece pieces
 

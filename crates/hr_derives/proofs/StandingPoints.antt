@@ -16,7 +16,7 @@ use Rattle.hr_derives.proofs.Standing.{GoesAt, Braced, Right}
 use Rattle.hr_derives.proofs.StandingPieces.{AtLeast}
 
 -- ---- lexemes in explicit braces
-abbrev with_layout : Span → Layout → Span
+abbrev pub with_layout : Span → Layout → Span
 with_layout span layout = record { layout = layout; kind = span.kind; enclosing = span.enclosing; start = span.start; extent = span.extent; pieces = span.pieces; ending = span.ending }
 
 or_first : (a b : Bool) → (a || false) ≡ true → (a || b) ≡ true
@@ -40,7 +40,7 @@ stands_braced text block i b =
     (subst (λ s. is_braced (s ∷ []) block i ≡ true) same (one_braced block b.span i b.left b.right b.lowest b.highest b.behind b.before))
 
 -- ---- point 3
-next_map : (P Q : Placed → Type 0) (ts : List Placed) → ((next : Placed) → P next → Q next) → Next P ts → Next Q ts
+pub next_map : (P Q : Placed → Type 0) (ts : List Placed) → ((next : Placed) → P next → Q next) → Next P ts → Next Q ts
 next_map P Q [] each h = tt
 next_map P Q (next ∷ ts) each h = each next h
 
