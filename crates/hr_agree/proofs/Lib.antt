@@ -1,3 +1,4 @@
+pub mod Agreeing
 pub mod Regaining
 pub mod RegainingBlocks
 pub mod RegainingDeclarations
