@@ -1,5 +1,12 @@
+pub mod Blocks
+pub mod Expressions
+pub mod Finders
+pub mod Imports
 pub mod Lists
 pub mod Names
+pub mod Patterns
 pub mod Speed
+pub mod Takes
 pub mod Tests
+pub mod Types
 pub mod Ways

@@ -83,7 +83,7 @@ there_shrinks : {Q : Item → Reading} → Shrinks Q → (separator : Option Ite
 there_shrinks less None ts us t = elim t [ ]
 there_shrinks less (Some item) ts us t = less item ts us t
 
-twice_shorter : (a b c k : ℕ) → a < b → b < c → c ≤ suc k → a ≤ k
+pub twice_shorter : (a b c k : ℕ) → a < b → b < c → c ≤ suc k → a ≤ k
 twice_shorter a b c k l m n = omega arith
 
 separated_complete : {T : Type 0} {Q : Item → Reading} {R : T → Reading} {s : Finder Item} {f : Finder T} → Matches Q s → Matches R f → Shrinks Q → Shrinks R

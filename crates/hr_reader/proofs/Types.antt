@@ -14,9 +14,9 @@ use Rattle.hr_grammar.specs.Types.{takes_application, takes_function}
 use Rattle.hr_grammar.specs.Words.{IsComma}
 use Rattle.hr_derives.specs.Readings.{Reading}
 use Rattle.hr_derives.specs.Types.{ty_reading, ty_over}
-use Rattle.hr_reader.specs.Ways.{Among, Way, Finder, ◌⊕◌, on, made_by}
-use Rattle.hr_reader.specs.Types.{ty_layers, ty_found}
-use Rattle.hr_reader.proofs.Ways.{among_left, among_right, Sound, Matches, Production, either_sound, on_sound, found_on, produced, sound_production, made_matches, one_matches, then_matches, passing_matches, so_matches, so_given, same_matches}
+use Rattle.hr_reader.specs.Ways.{Among, Way}
+use Rattle.hr_reader.specs.Types.{ty_ways, ty_layers, ty_found}
+use Rattle.hr_reader.proofs.Ways.{Sound, Matches, Production, any_sound, chosen, on_sound, produced, produced_on, sound_production, made_matches, one_matches, then_matches, passing_matches, so_matches, so_given, same_matches}
 use Rattle.hr_reader.proofs.Tests.{tests_of, tests_reserved, tests_special, tests_one, tests_parts, tests_at}
 use Rattle.hr_reader.proofs.Lists.{in_turn_matches, separated_matches}
 use Rattle.hr_reader.proofs.Names.{one_shrinks, type_constructors_match}
@@ -67,31 +67,31 @@ function b n place e =
 
 layers_sound : (b : Level) (n : ℕ) (place : TyPlace) → Sound (ty_reading b.read n place) (ty_layers b.found n place)
 layers_sound b n place =
-    either_sound (sound_production Ty-F.Variable (variable b n place))
-    (either_sound (sound_production Ty-F.Constructor (constructor b n place))
-    (either_sound (sound_production tuple_of (tuple b n place))
-    (either_sound (sound_production list_of (list b n place))
-    (either_sound (sound_production group_of (group b n place))
-    (either_sound (on_sound (takes_application place) (λ e. sound_production apply_of (apply b n place e)))
-    (on_sound (takes_function place) (λ e. sound_production function_of (function b n place e))))))))
+    any_sound (ty_ways b.found n place)
+    (sound_production Ty-F.Variable (variable b n place),
+    (sound_production Ty-F.Constructor (constructor b n place),
+    (sound_production tuple_of (tuple b n place),
+    (sound_production list_of (list b n place),
+    (sound_production group_of (group b n place),
+    (on_sound (takes_application place) (λ e. sound_production apply_of (apply b n place e)),
+    (on_sound (takes_function place) (λ e. sound_production function_of (function b n place e)), tt)))))))
 
 layers_complete : (b : Level) (n : ℕ) (place : TyPlace) (layer : Ty-F Ty) (ts us : List Placed) → ty_reading b.read n place layer ts us
     → Among {T = Way (Ty-F Ty)} (layer, us) (ty_layers b.found n place ts)
-layers_complete b n place (Ty-F.Variable name) ts us r = among_left _ _ _ (produced (ty_reading b.read n place) Ty-F.Variable (variable b n place) name ts us r)
+layers_complete b n place (Ty-F.Variable name) ts us r =
+    chosen (ty_ways b.found n place) 0 _ ts us (produced (ty_reading b.read n place) Ty-F.Variable (variable b n place) name ts us r)
 layers_complete b n place (Ty-F.Constructor named) ts us r =
-    among_right _ _ _ (among_left _ _ _ (produced (ty_reading b.read n place) Ty-F.Constructor (constructor b n place) named ts us r))
+    chosen (ty_ways b.found n place) 1 _ ts us (produced (ty_reading b.read n place) Ty-F.Constructor (constructor b n place) named ts us r)
 layers_complete b n place (Ty-F.Tuple left parts right) ts us r =
-    among_right _ _ _ (among_right _ _ _ (among_left _ _ _ (produced (ty_reading b.read n place) tuple_of (tuple b n place) (left, (parts, right)) ts us r)))
+    chosen (ty_ways b.found n place) 2 _ ts us (produced (ty_reading b.read n place) tuple_of (tuple b n place) (left, (parts, right)) ts us r)
 layers_complete b n place (Ty-F.List left part right) ts us r =
-    among_right _ _ _ (among_right _ _ _ (among_right _ _ _ (among_left _ _ _ (produced (ty_reading b.read n place) list_of (list b n place) (left, (part, right)) ts us r))))
+    chosen (ty_ways b.found n place) 3 _ ts us (produced (ty_reading b.read n place) list_of (list b n place) (left, (part, right)) ts us r)
 layers_complete b n place (Ty-F.Group left part right) ts us r =
-    among_right _ _ _ (among_right _ _ _ (among_right _ _ _ (among_right _ _ _ (among_left _ _ _ (produced (ty_reading b.read n place) group_of (group b n place) (left, (part, right)) ts us r)))))
+    chosen (ty_ways b.found n place) 4 _ ts us (produced (ty_reading b.read n place) group_of (group b n place) (left, (part, right)) ts us r)
 layers_complete b n place (Ty-F.Apply named arguments) ts us r =
-    among_right _ _ _ (among_right _ _ _ (among_right _ _ _ (among_right _ _ _ (among_right _ _ _ (among_left _ _ _ (found_on (takes_application place) _ _ ts r.0.0
-    (produced (ty_reading b.read n place) apply_of (apply b n place r.0.0) (named, arguments) ts us r)))))))
+    chosen (ty_ways b.found n place) 5 _ ts us (produced_on (ty_reading b.read n place) apply_of (takes_application place) r.0.0 (apply b n place r.0.0) (named, arguments) ts us r)
 layers_complete b n place (Ty-F.Function from arrow to) ts us r =
-    among_right _ _ _ (among_right _ _ _ (among_right _ _ _ (among_right _ _ _ (among_right _ _ _ (among_right _ _ _ (found_on (takes_function place) _ _ ts r.0
-    (produced (ty_reading b.read n place) function_of (function b n place r.0) (from, (arrow, to)) ts us r)))))))
+    chosen (ty_ways b.found n place) 6 _ ts us (produced_on (ty_reading b.read n place) function_of (takes_function place) r.0 (function b n place r.0) (from, (arrow, to)) ts us r)
 
 layers_match : (b : Level) (n : ℕ) (place : TyPlace) → Matches (ty_reading b.read n place) (ty_layers b.found n place)
 layers_match b n place = record { sound = (layers_sound b n place).sound; complete = layers_complete b n place }

@@ -8,7 +8,7 @@ use Rattle.hr_rules.specs.Blocks.{goes_on}
 use Rattle.hr_tree.specs.declared.lists.Listed.{Listed}
 use Rattle.hr_derives.specs.Readings.{Reading, nothing, ◌▷◌, given}
 use Rattle.hr_derives.specs.Readings as reading
-use Rattle.hr_reader.specs.Ways.{Among, Way, Finder, none, gives, ◌⊕◌, on, passing, made_by, behind, ◌▶◌, one, maybe, in_turn_by, in_turn, inside, ends_as}
+use Rattle.hr_reader.specs.Ways.{Among, Way, Finder, any_of, none, gives, ◌⊕◌, on, passing, made_by, behind, ◌▶◌, one, maybe, in_turn_by, in_turn, inside, ends_as}
 
 -- lists of ways
 pub among_left : {T : Type 0} (x : T) (xs ys : List T) → Among x xs → Among x (xs ++ ys)
@@ -129,7 +129,7 @@ made_matches {S} {T} {R} make back {f} same m = record {
       subst (λ y. Among {T = Way T} (y, us) (made_by make f ts)) (same x) (made_found make f (back x) ts us (m.complete (back x) ts us (subst (λ y. R y ts us) (sym (same x)) r)));
 }
 
-on_sound_by : {T : Type 0} (b : Bool) (f : Finder T) (w : Way T) (ts : List Placed) → Among w (on b f ts) → (b ≡ true) × Among w (f ts)
+pub on_sound_by : {T : Type 0} (b : Bool) (f : Finder T) (w : Way T) (ts : List Placed) → Among w (on b f ts) → (b ≡ true) × Among w (f ts)
 on_sound_by true f w ts h = (refl, h)
 on_sound_by false f w ts h = elim h [ ]
 
@@ -242,5 +242,37 @@ pub produced : {S T : Type 0} (R : T → Reading) (make : S → T) (production :
     → Among {T = Way T} (make a, us) (made_by make production.0 ts)
 produced R make production a ts us r = made_found make production.0 a ts us (production.1.complete a ts us r)
 
+pub produced_on : {S T : Type 0} (R : T → Reading) (make : S → T) (b : Bool) → b ≡ true → (production : Production R make) (a : S) (ts us : List Placed) → R (make a) ts us
+    → Among {T = Way T} (make a, us) (on b (made_by make production.0) ts)
+produced_on R make b e production a ts us r = found_on b (made_by make production.0) (make a, us) ts e (produced R make production a ts us r)
+
 pub sound_production : {S T : Type 0} {R : T → Reading} (make : S → T) (production : Production R make) → Sound R (made_by make production.0)
 sound_production make production = made_sound make (is_sound production.1)
+
+-- any of several finders
+abbrev pub AllSound : {T : Type 0} → (T → Reading) → List (Finder T) → Type 0
+AllSound R [] = Unit {0}
+AllSound R (finder ∷ finders) = Sound R finder × AllSound R finders
+
+one_sound : {T : Type 0} {R : T → Reading} {finder rest : Finder T} → Sound R finder → Sound R rest → (x : T) (ts us : List Placed)
+    → Among {T = Way T} (x, us) (finder ts) ⊎ Among {T = Way T} (x, us) (rest ts) → R x ts us
+one_sound s t x ts us (inl h) = s.sound x ts us h
+one_sound s t x ts us (inr h) = t.sound x ts us h
+
+pub any_sound : {T : Type 0} {R : T → Reading} (finders : List (Finder T)) → AllSound R finders → Sound R (any_of finders)
+any_sound [] s = record { sound = λ x ts us h. elim h [ ] }
+any_sound {T} {R} (finder ∷ finders) s = record {
+  sound = λ x ts us h. one_sound {R = R} s.0 (any_sound finders s.1) x ts us (among_either (x, us) (finder ts) (any_of finders ts) h);
+}
+
+abbrev pub numbered : {T : Type 0} → List (Finder T) → ℕ → Finder T
+numbered [] k = none
+numbered (finder ∷ finders) zero = finder
+numbered (finder ∷ finders) (suc k) = numbered finders k
+
+-- the one of a number finds it
+pub chosen : {T : Type 0} (finders : List (Finder T)) (k : ℕ) (x : T) (ts us : List Placed) → Among {T = Way T} (x, us) (numbered finders k ts)
+    → Among {T = Way T} (x, us) (any_of finders ts)
+chosen [] k x ts us h = elim h [ ]
+chosen (finder ∷ finders) zero x ts us h = among_left (x, us) (finder ts) (any_of finders ts) h
+chosen (finder ∷ finders) (suc k) x ts us h = among_right (x, us) (finder ts) (any_of finders ts) (chosen finders k x ts us h)

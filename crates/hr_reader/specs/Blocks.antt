@@ -12,7 +12,7 @@ use Rattle.hr_tree.specs.declared.lists.Layout.{Layout}
 use Rattle.hr_tree.specs.declared.lists.Piece.{Piece}
 use Rattle.hr_grammar.specs.Nodes.{DeclPlace}
 use Rattle.hr_grammar.specs.Offside.{column_of}
-use Rattle.hr_reader.specs.Ways.{Finder, Way, none, gives, ◌⊕◌, on, made_by, behind, ◌▶◌, one}
+use Rattle.hr_reader.specs.Ways.{Finder, any_of, Way, none, gives, on, made_by, behind, ◌▶◌, one}
 use Rattle.hr_reader.specs.Tests.{is_special}
 
 -- a part in the block at a column, behind parts of a place: with its own place and its ending
@@ -38,24 +38,33 @@ semicolon_then p = Piece.Semicolon p.0 ∷ p.1
 abbrev pub part_then : {T : Type 0} → (T × (DeclPlace × Ending)) × List (Piece T) → List (Piece T)
 part_then p = Piece.Part p.0.0 ∷ p.1
 
+-- no piece more, a `;`, or a part; what is behind it depends on its place and its ending
+abbrev pub piece_ways : {T : Type 0} → PartFinder T → BlockKind → ℕ → DeclPlace → Ending → (DeclPlace → Ending → Finder (List (Piece T))) → List (Finder (List (Piece T)))
+piece_ways parts kind n place ending rest =
+    ends kind n ending
+    ∷ made_by semicolon_then (semicolon n ▶ rest place Ending.Nothing)
+    ∷ made_by part_then (starting n ending (behind (parts n place) (λ q. rest q.1.0 q.1.1)))
+    ∷ []
+
 -- the pieces of a block of the kind at column n, behind a piece that ends so: no more than so many
 abbrev pub pieces_by : {T : Type 0} → PartFinder T → BlockKind → ℕ → ℕ → DeclPlace → Ending → Finder (List (Piece T))
 pieces_by parts kind n zero place ending = ends kind n ending
-pieces_by parts kind n (suc fuel) place ending =
-    ends kind n ending
-    ⊕ made_by semicolon_then (semicolon n ▶ pieces_by parts kind n fuel place Ending.Nothing)
-    ⊕ made_by part_then (starting n ending (behind (parts n place) (λ q. pieces_by parts kind n fuel q.1.0 q.1.1)))
+pieces_by parts kind n (suc fuel) place ending = any_of (piece_ways parts kind n place ending (pieces_by parts kind n fuel))
 
 abbrev pub pieces : {T : Type 0} → PartFinder T → BlockKind → ℕ → DeclPlace → Ending → Finder (List (Piece T))
 pieces parts kind n place ending ts = pieces_by parts kind n (length ts) place ending ts
 
--- between braces
+-- between braces there is no boundary; a part may begin where the mark says
+abbrev pub braced_ways : {T : Type 0} → PartFinder T → DeclPlace → Bool → (DeclPlace → Bool → Finder (List (Piece T))) → List (Finder (List (Piece T)))
+braced_ways parts place begins rest =
+    gives []
+    ∷ made_by semicolon_then (one 0 (is_special (codes ";")) ▶ rest place true)
+    ∷ on begins (made_by part_then (behind (parts 0 place) (λ q. rest q.1.0 false)))
+    ∷ []
+
 abbrev pub braced_by : {T : Type 0} → PartFinder T → ℕ → DeclPlace → Bool → Finder (List (Piece T))
 braced_by parts zero place begins = gives []
-braced_by parts (suc fuel) place begins =
-    gives []
-    ⊕ made_by semicolon_then (one 0 (is_special (codes ";")) ▶ braced_by parts fuel place true)
-    ⊕ on begins (made_by part_then (behind (parts 0 place) (λ q. braced_by parts fuel q.1.0 false)))
+braced_by parts (suc fuel) place begins = any_of (braced_ways parts place begins (braced_by parts fuel))
 
 abbrev pub braced : {T : Type 0} → PartFinder T → DeclPlace → Bool → Finder (List (Piece T))
 braced parts place begins ts = braced_by parts (length ts) place begins ts
@@ -76,7 +85,11 @@ abbrev pub with_braces : {T : Type 0} → Item × (List (Piece T) × Item) → B
 with_braces p = record { layout = Layout.Explicit p.0 p.1.1; pieces = p.1.0 }
 
 -- a block behind its opening word, where the block round it stands at column m
-abbrev pub block : {T : Type 0} → PartFinder T → BlockKind → ℕ → DeclPlace → Finder (Block T)
-block parts kind m place =
+abbrev pub block_ways : {T : Type 0} → PartFinder T → BlockKind → ℕ → DeclPlace → List (Finder (Block T))
+block_ways parts kind m place =
     made_by without_braces (implicit parts kind m place)
-    ⊕ made_by with_braces (one 0 (is_special (codes "{")) ▶ braced parts place true ▶ one 0 (is_special (codes "}")))
+    ∷ made_by with_braces (one 0 (is_special (codes "{")) ▶ braced parts place true ▶ one 0 (is_special (codes "}")))
+    ∷ []
+
+abbrev pub block : {T : Type 0} → PartFinder T → BlockKind → ℕ → DeclPlace → Finder (Block T)
+block parts kind m place = any_of (block_ways parts kind m place)

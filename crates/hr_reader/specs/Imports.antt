@@ -1,5 +1,5 @@
 -- The ways to begin with an import, and with a module's header.
-use Rattle.std.specs.Prelude.{ℕ, List, Option}
+use Rattle.std.specs.Prelude.{ℕ, List, Option, [], ◌∷◌}
 use lib.Chars.{codes}
 use Rattle.hr_base.specs.declared.lexeme.Class.{Class}
 use Rattle.hr_base.specs.declared.lexeme.Item.{Item}
@@ -12,16 +12,20 @@ use Rattle.hr_tree.specs.declared.modules.Alias.{Alias}
 use Rattle.hr_tree.specs.declared.modules.ImportNames.{ImportNames}
 use Rattle.hr_tree.specs.declared.modules.Imported.{Imported}
 use Rattle.hr_tree.specs.declared.modules.Header.{Header}
-use Rattle.hr_reader.specs.Ways.{Finder, ◌⊕◌, made_by, ◌▶◌, one, maybe, separated}
+use Rattle.hr_reader.specs.Ways.{Finder, any_of, made_by, ◌▶◌, one, maybe, separated}
 use Rattle.hr_reader.specs.Tests.{is_of, is_word, is_import_word, is_special, is_reserved, is_either}
 use Rattle.hr_reader.specs.Names.{variables, named_variables, own_constructors}
 
 -- the constructors that are named with a type
-abbrev pub members : ℕ → Finder Members
-members n =
+abbrev pub member_ways : ℕ → List (Finder Members)
+member_ways n =
     made_by (λ p. Members.All p.0 p.1.0 p.1.1) (one n (is_special (codes "(")) ▶ one n (is_reserved (codes "..")) ▶ one n (is_special (codes ")")))
-    ⊕ made_by (λ p. Members.Named p.0 p.1.0 p.1.1)
+    ∷ made_by (λ p. Members.Named p.0 p.1.0 p.1.1)
       (one n (is_special (codes "(")) ▶ separated (one n (is_special (codes ","))) (own_constructors n) ▶ one n (is_special (codes ")")))
+    ∷ []
+
+abbrev pub members : ℕ → Finder Members
+members n = any_of (member_ways n)
 
 abbrev pub names_of : {T : Type 0} → Item × (List (Listed T) × (Option Item × Item)) → NameList T
 names_of p = record { left = p.0; list = p.1.0; last_comma = p.1.1.0; right = p.1.1.1 }
@@ -32,16 +36,24 @@ name_list n of =
     made_by names_of
     (one n (is_special (codes "(")) ▶ separated (one n (is_special (codes ","))) of ▶ maybe (one n (is_special (codes ","))) ▶ one n (is_special (codes ")")))
 
-abbrev pub exports : ℕ → Finder Export
-exports n =
+abbrev pub export_ways : ℕ → List (Finder Export)
+export_ways n =
     made_by Export.Variable (named_variables n)
-    ⊕ made_by (λ p. Export.Type p.0 p.1) (one n (is_either Class.ConId Class.QConId) ▶ maybe (members n))
-    ⊕ made_by (λ p. Export.Module p.0 p.1) (one n (is_word (codes "module")) ▶ one n (is_of Class.ConId))
+    ∷ made_by (λ p. Export.Type p.0 p.1) (one n (is_either Class.ConId Class.QConId) ▶ maybe (members n))
+    ∷ made_by (λ p. Export.Module p.0 p.1) (one n (is_word (codes "module")) ▶ one n (is_of Class.ConId))
+    ∷ []
+
+abbrev pub exports : ℕ → Finder Export
+exports n = any_of (export_ways n)
+
+abbrev pub imported_ways : ℕ → List (Finder Imported)
+imported_ways n =
+    made_by Imported.Variable (variables n)
+    ∷ made_by (λ p. Imported.Type p.0 p.1) (one n (is_of Class.ConId) ▶ maybe (members n))
+    ∷ []
 
 abbrev pub imported : ℕ → Finder Imported
-imported n =
-    made_by Imported.Variable (variables n)
-    ⊕ made_by (λ p. Imported.Type p.0 p.1) (one n (is_of Class.ConId) ▶ maybe (members n))
+imported n = any_of (imported_ways n)
 
 abbrev pub alias_of : Item × Item → Alias
 alias_of p = record { word = p.0; name = p.1 }

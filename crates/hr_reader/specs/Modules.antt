@@ -13,7 +13,7 @@ use Rattle.hr_tree.specs.declared.modules.Header.{Header}
 use Rattle.hr_tree.specs.declared.modules.Module.{Module}
 use Rattle.hr_grammar.specs.Nodes.{DeclPlace}
 use Rattle.hr_derives.specs.Modules.{comes_behind}
-use Rattle.hr_reader.specs.Ways.{Finder, Way, none, ◌⊕◌, on, made_by, ◌▶◌, maybe}
+use Rattle.hr_reader.specs.Ways.{Finder, any_of, Way, none, on, made_by, ◌▶◌, maybe}
 use Rattle.hr_reader.specs.Finders.{Finders, no_finders}
 use Rattle.hr_reader.specs.Types.{ty_found}
 use Rattle.hr_reader.specs.Patterns.{pat_found}
@@ -28,7 +28,7 @@ decl_of_place below n place next = on (comes_behind place next) (made_by (λ p. 
 
 abbrev pub decl_parts_found : Finders → PartFinder Decl
 decl_parts_found below n place =
-    decl_of_place below n place DeclPlace.First ⊕ decl_of_place below n place DeclPlace.Top ⊕ decl_of_place below n place DeclPlace.Local
+    any_of (decl_of_place below n place DeclPlace.First ∷ decl_of_place below n place DeclPlace.Top ∷ decl_of_place below n place DeclPlace.Local ∷ [])
 
 abbrev pub alt_parts_found : Finders → PartFinder Alt
 alt_parts_found below n place = made_by (λ p. (p.0, (place, p.1))) (below.alt n)

@@ -8,7 +8,7 @@ use Rattle.hr_tree.specs.declared.patterns.Pat.TheOpen.{Pat-F}
 use Rattle.hr_base.specs.declared.lexeme.Class.{Class}
 use Rattle.hr_grammar.specs.Nodes.{PatPlace}
 use Rattle.hr_grammar.specs.Patterns.{takes_operand, takes_infix}
-use Rattle.hr_reader.specs.Ways.{Finder, none, ◌⊕◌, on, passing, made_by, ◌▶◌, one, in_turn, separated}
+use Rattle.hr_reader.specs.Ways.{Finder, any_of, none, ◌⊕◌, on, passing, made_by, ◌▶◌, one, in_turn, separated}
 use Rattle.hr_reader.specs.Tests.{is_of, is_word, is_reserved, is_special, is_literal, is_minus, has_one, has_two, are_parts}
 use Rattle.hr_reader.specs.Names.{variables, constructors, constructor_operators}
 use Rattle.hr_reader.specs.Finders.{Finders}
@@ -30,22 +30,26 @@ operands_by below n (suc fuel) =
 abbrev pub pat_operands_found : Finders → ℕ → Finder (List (Operand Pat))
 pat_operands_found below n ts = operands_by below n (length ts) ts
 
-abbrev pub pat_layers : Finders → ℕ → PatPlace → Finder (Pat-F Pat)
-pat_layers below n place =
+abbrev pub pat_ways : Finders → ℕ → PatPlace → List (Finder (Pat-F Pat))
+pat_ways below n place =
     made_by Pat-F.Variable (variables n)
-    ⊕ made_by Pat-F.Wildcard (one n (is_word (codes "_")))
-    ⊕ made_by Pat-F.Literal (one n is_literal)
-    ⊕ made_by Pat-F.Constructor (constructors n)
-    ⊕ made_by (λ p. Pat-F.As p.0 p.1.0 p.1.1) (variables n ▶ one n (is_reserved (codes "@")) ▶ below.pat n PatPlace.Atomic)
-    ⊕ made_by (λ p. Pat-F.Lazy p.0 p.1) (one n (is_reserved (codes "~")) ▶ below.pat n PatPlace.Atomic)
-    ⊕ made_by (λ p. Pat-F.Tuple p.0 p.1.0 p.1.1) (passing (λ p. are_parts p.1.0)
+    ∷ made_by Pat-F.Wildcard (one n (is_word (codes "_")))
+    ∷ made_by Pat-F.Literal (one n is_literal)
+    ∷ made_by Pat-F.Constructor (constructors n)
+    ∷ made_by (λ p. Pat-F.As p.0 p.1.0 p.1.1) (variables n ▶ one n (is_reserved (codes "@")) ▶ below.pat n PatPlace.Atomic)
+    ∷ made_by (λ p. Pat-F.Lazy p.0 p.1) (one n (is_reserved (codes "~")) ▶ below.pat n PatPlace.Atomic)
+    ∷ made_by (λ p. Pat-F.Tuple p.0 p.1.0 p.1.1) (passing (λ p. are_parts p.1.0)
       (one n (is_special (codes "(")) ▶ separated (one n (is_special (codes ","))) (below.pat n PatPlace.Whole) ▶ one n (is_special (codes ")"))))
-    ⊕ made_by (λ p. Pat-F.List p.0 p.1.0 p.1.1) (passing (λ p. has_one p.1.0)
+    ∷ made_by (λ p. Pat-F.List p.0 p.1.0 p.1.1) (passing (λ p. has_one p.1.0)
       (one n (is_special (codes "[")) ▶ separated (one n (is_special (codes ","))) (below.pat n PatPlace.Whole) ▶ one n (is_special (codes "]"))))
-    ⊕ made_by (λ p. Pat-F.Group p.0 p.1.0 p.1.1) (one n (is_special (codes "(")) ▶ below.pat n PatPlace.Whole ▶ one n (is_special (codes ")")))
-    ⊕ on (takes_operand place) (made_by (λ p. Pat-F.Negative p.0 p.1) (one n is_minus ▶ one n (is_of Class.Integer)))
-    ⊕ on (takes_operand place) (made_by (λ p. Pat-F.Apply p.0 p.1) (passing (λ p. has_one p.1) (constructors n ▶ in_turn (below.pat n PatPlace.Atomic))))
-    ⊕ on (takes_infix place) (made_by Pat-F.Infix (passing has_two (pat_operands_found below n)))
+    ∷ made_by (λ p. Pat-F.Group p.0 p.1.0 p.1.1) (one n (is_special (codes "(")) ▶ below.pat n PatPlace.Whole ▶ one n (is_special (codes ")")))
+    ∷ on (takes_operand place) (made_by (λ p. Pat-F.Negative p.0 p.1) (one n is_minus ▶ one n (is_of Class.Integer)))
+    ∷ on (takes_operand place) (made_by (λ p. Pat-F.Apply p.0 p.1) (passing (λ p. has_one p.1) (constructors n ▶ in_turn (below.pat n PatPlace.Atomic))))
+    ∷ on (takes_infix place) (made_by Pat-F.Infix (passing has_two (pat_operands_found below n)))
+    ∷ []
+
+abbrev pub pat_layers : Finders → ℕ → PatPlace → Finder (Pat-F Pat)
+pat_layers below n place = any_of (pat_ways below n place)
 
 abbrev pub pat_found : Finders → ℕ → PatPlace → Finder Pat
 pat_found below n place = made_by roll-Pat (pat_layers below n place)

@@ -32,6 +32,10 @@ infixr 5 ◌⊕◌
 abbrev pub ◌⊕◌ : {T : Type 0} → Finder T → Finder T → Finder T
 (first ⊕ second) ts = first ts ++ second ts
 
+-- the ways of each of a list
+abbrev pub any_of : {T : Type 0} → List (Finder T) → Finder T
+any_of finders ts = flat_map (λ finder. finder ts) finders
+
 -- where the condition holds
 abbrev pub on : {T : Type 0} → Bool → Finder T → Finder T
 on condition finder ts = if condition then finder ts else []
