@@ -1,8 +1,10 @@
 pub mod Blocks
+pub mod Declarations
 pub mod Expressions
 pub mod Finders
 pub mod Imports
 pub mod Lists
+pub mod Modules
 pub mod Names
 pub mod Patterns
 pub mod Speed

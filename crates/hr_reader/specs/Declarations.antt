@@ -133,9 +133,6 @@ right_side_ways below n is_mark =
 abbrev pub right_sides : Finders → ℕ → (Item → Bool) → Finder RightSide
 right_sides below n is_mark = any_of (right_side_ways below n is_mark)
 
-abbrev pub is_fixity_word : Item → Bool
-is_fixity_word item = is_of Class.ReservedId item && is_one_of fixity_words item.lexeme.text
-
 abbrev pub decl_ways : Finders → ℕ → DeclPlace → List (Finder (Decl-F Decl Exp Qualifier Alt × Ending))
 decl_ways below n place =
     on (takes_import place) (made_by (λ import. (Decl-F.Import import, Ending.WhereBlock)) (imports n))
@@ -147,8 +144,8 @@ decl_ways below n place =
       (one n (is_word (codes "newtype")) ▶ type_heads n ▶ one n (is_reserved (codes "=")) ▶ new_constructions below n))
     ∷ on (takes_local place) (made_by (λ p. (Decl-F.Signature p.0 p.1.0 p.1.1, Ending.Signature)) (passing (λ p. has_one p.0)
       (separated (one n (is_special (codes ","))) (variables n) ▶ one n (is_reserved (codes "::")) ▶ below.ty n TyPlace.Whole)))
-    ∷ on (takes_local place) (made_by (λ p. (Decl-F.Fixity p.0 p.1.0 p.1.1, Ending.Fixity)) (passing (λ p. has_one p.1.1)
-      (one n is_fixity_word ▶ maybe (one n is_digit) ▶ separated (one n (is_special (codes ","))) (own_operators n))))
+    ∷ on (takes_local place) (made_by (λ p. (Decl-F.Fixity p.0 p.1.0 p.1.1, Ending.Fixity)) (passing (λ p. is_one_of fixity_words p.0.lexeme.text && has_one p.1.1)
+      (one n (is_of Class.ReservedId) ▶ maybe (one n is_digit) ▶ separated (one n (is_special (codes ","))) (own_operators n))))
     ∷ on (takes_local place) (made_by (λ p. (Decl-F.Equation p.0 p.1.0.0 p.1.0.1, p.1.1)) (left_sides below n ▶ right_sides below n (is_reserved (codes "="))))
     ∷ on (takes_local place) (made_by (λ p. (Decl-F.Binding p.0 p.1.0.0 p.1.0.1, p.1.1)) (below.pat n PatPlace.Whole ▶ right_sides below n (is_reserved (codes "="))))
     ∷ []

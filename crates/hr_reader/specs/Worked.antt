@@ -1,0 +1,99 @@
+-- Worked texts: those that the reader finds one tree of, and those that have none.
+use Rattle.std.specs.Prelude.{ℕ, ◌≡◌, List, [], ◌∷◌, length}
+use lib.Chars.{codes}
+use Rattle.hr_base.specs.declared.lexeme.Class.{Class}
+use Rattle.hr_base.specs.declared.lexeme.Item.{Item}
+use Rattle.hr_tree.specs.declared.modules.Module.{Module}
+use Rattle.hr_grammar.specs.Yields.{nesting_limit}
+use Rattle.hr_grammar.specs.Worked.{item, word, mark, bracket, joint, annotated_in_let, section_of_lambda, case_in_if, sum_behind_case}
+use Rattle.hr_derives.specs.Modules.{Derives}
+use Rattle.hr_derives.specs.Worked.{annotated_in_let_items, section_of_lambda_items, case_in_if_items, sum_behind_case_items, defines_a}
+use Rattle.hr_reader.specs.Modules.{trees_of}
+
+-- lexemes with a blank before them, and at the beginning of a line
+abbrev name : List ℕ → Item
+name = item Class.VarId (codes " ")
+
+abbrev type : List ℕ → Item
+type = item Class.ConId (codes " ")
+
+abbrev number : List ℕ → Item
+number = item Class.Integer (codes " ")
+
+abbrev symbol : List ℕ → Item
+symbol = item Class.VarSym (codes " ")
+
+abbrev line : Class → List ℕ → Item
+line class text = item class (codes "\n") text
+
+-- the reader finds this tree, and no other one
+abbrev pub HasOneTree : Module → List Item → Type 0
+HasOneTree tree items = trees_of nesting_limit (record { list = items; tail = tree.tail }) ≡ tree ∷ []
+
+-- it finds one tree, whatever that is
+abbrev pub HasSomeTree : List Item → Type 0
+HasSomeTree items = length (trees_of nesting_limit (record { list = items; tail = [] })) ≡ 1
+
+-- it finds none, so there is none by the relation
+pub record HasNoTree (items : List Item) : Type 0 where
+  pub found : (tail : List ℕ) → trees_of nesting_limit (record { list = items; tail = tail }) ≡ []
+  pub derived : (tree : Module) → Derives nesting_limit tree items → ⊥
+
+-- a module with a header, an import, a declaration of a type, a signature, and an equation with guards and `where`
+abbrev pub module_items : List Item
+module_items =
+    item Class.ReservedId [] (codes "module") ∷ type (codes "M") ∷ bracket (codes "(") ∷ item Class.VarId [] (codes "f") ∷ joint (codes ",") ∷ joint (codes ")") ∷ word (codes "where")
+    ∷ line Class.ReservedId (codes "import") ∷ type (codes "N") ∷ bracket (codes "(") ∷ joint (codes ")")
+    ∷ line Class.ReservedId (codes "data") ∷ type (codes "T") ∷ mark (codes "=") ∷ type (codes "C") ∷ type (codes "T") ∷ mark (codes "|") ∷ type (codes "D")
+    ∷ line Class.VarId (codes "f") ∷ mark (codes "::") ∷ type (codes "T") ∷ mark (codes "->") ∷ type (codes "T")
+    ∷ line Class.VarId (codes "f") ∷ name (codes "x") ∷ mark (codes "|") ∷ name (codes "y") ∷ mark (codes "=") ∷ name (codes "z")
+    ∷ item Class.ReservedId (codes "\n ") (codes "where") ∷ name (codes "y") ∷ mark (codes "=") ∷ name (codes "x")
+    ∷ []
+
+-- two declarations between braces, with a `;` before, between and behind them
+abbrev pub braced_items : List Item
+braced_items =
+    item Class.Special [] (codes "{") ∷ joint (codes ";") ∷ name (codes "a") ∷ mark (codes "=") ∷ name (codes "b") ∷ joint (codes ";") ∷ joint (codes ";") ∷ name (codes "c") ∷ symbol (codes "+")
+    ∷ name (codes "d") ∷ mark (codes "=") ∷ symbol (codes "-") ∷ number (codes "1") ∷ joint (codes ";") ∷ bracket (codes "}") ∷ []
+
+-- `f = )`
+abbrev pub closing_items : List Item
+closing_items = item Class.VarId [] (codes "f") ∷ mark (codes "=") ∷ bracket (codes ")") ∷ []
+
+-- `f = class`
+abbrev pub class_items : List Item
+class_items = item Class.VarId [] (codes "f") ∷ mark (codes "=") ∷ word (codes "class") ∷ []
+
+-- `main s = let x = 1`
+abbrev pub let_without_in_items : List Item
+let_without_in_items =
+    item Class.VarId [] (codes "main") ∷ name (codes "s") ∷ mark (codes "=") ∷ word (codes "let") ∷ name (codes "x") ∷ mark (codes "=") ∷ number (codes "1") ∷ []
+
+-- `a = if b`, and `then c else d` at the margin of the line below
+abbrev pub then_at_margin_items : List Item
+then_at_margin_items =
+    item Class.VarId [] (codes "a") ∷ mark (codes "=") ∷ word (codes "if") ∷ name (codes "b") ∷ line Class.ReservedId (codes "then") ∷ name (codes "c") ∷ word (codes "else") ∷ name (codes "d") ∷ []
+
+-- `a :: b :: c`
+abbrev pub twice_annotated_items : List Item
+twice_annotated_items = item Class.VarId [] (codes "a") ∷ mark (codes "::") ∷ name (codes "b") ∷ mark (codes "::") ∷ name (codes "c") ∷ []
+
+-- `a = [case x of y | a -> 1 | b <- c]`
+abbrev pub case_or_comprehension_items : List Item
+case_or_comprehension_items =
+    item Class.VarId [] (codes "a") ∷ mark (codes "=") ∷ bracket (codes "[") ∷ item Class.ReservedId [] (codes "case") ∷ name (codes "x") ∷ word (codes "of") ∷ name (codes "y") ∷ mark (codes "|")
+    ∷ name (codes "a") ∷ mark (codes "->") ∷ number (codes "1") ∷ mark (codes "|") ∷ name (codes "b") ∷ mark (codes "<-") ∷ name (codes "c") ∷ joint (codes "]") ∷ []
+
+pub record WorkedTextsAreFound : Type 0 where
+  pub annotated_in_let : HasOneTree (defines_a annotated_in_let) annotated_in_let_items
+  pub section_of_lambda : HasOneTree (defines_a section_of_lambda) section_of_lambda_items
+  pub case_in_if : HasOneTree (defines_a case_in_if) case_in_if_items
+  pub sum_behind_case : HasOneTree (defines_a sum_behind_case) sum_behind_case_items
+  pub whole_module : HasSomeTree module_items
+  pub braced : HasSomeTree braced_items
+  pub closing : HasNoTree closing_items
+  pub class_word : HasNoTree class_items
+  pub let_without_in : HasNoTree let_without_in_items
+  pub then_at_margin : HasNoTree then_at_margin_items
+  pub twice_annotated : HasNoTree twice_annotated_items
+  pub case_or_comprehension : HasNoTree case_or_comprehension_items
