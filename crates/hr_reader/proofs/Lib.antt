@@ -7,8 +7,8 @@ pub mod Lists
 pub mod Modules
 pub mod Names
 pub mod Patterns
-pub mod Speed
 pub mod Takes
 pub mod Tests
 pub mod Types
 pub mod Ways
+pub mod Worked

@@ -10,3 +10,4 @@ pub mod Patterns
 pub mod Tests
 pub mod Types
 pub mod Ways
+pub mod Worked

@@ -3,4 +3,4 @@
 
 mod laws;
 
-pub use laws::{derived_are_found, found_are_derived};
+pub use laws::{derived_are_found, found_are_derived, worked_texts_are_found};
