@@ -1,5 +1,5 @@
 -- The blocks that are found are those that are read, if their parts are.
-use Rattle.std.proofs.Common.{◌≡◌, ◌⊎◌, ◌≤◌, ◌<◌, ℕ, zero, suc, Bool, true, false, not, ◌&&◌, List, [], ◌∷◌, length, refl, sym, ap, ◌∙◌, subst, inl, inr, arith}
+use Rattle.std.proofs.Common.{◌≡◌, ◌≤◌, ◌<◌, ℕ, zero, suc, Bool, true, false, not, ◌&&◌, List, [], ◌∷◌, length, refl, sym, ap, ◌∙◌, subst, inl, inr, arith}
 use lib.Chars.{codes}
 use Rattle.hr_base.specs.declared.lexeme.Ending.{Ending}
 use Rattle.hr_base.specs.declared.lexeme.Item.{Item}
@@ -12,11 +12,10 @@ use Rattle.hr_tree.specs.declared.lists.Layout.{Layout}
 use Rattle.hr_tree.specs.declared.lists.Piece.{Piece}
 use Rattle.hr_grammar.specs.Words.{IsSemicolon}
 use Rattle.hr_grammar.specs.Nodes.{DeclPlace}
-use Rattle.hr_grammar.specs.Offside.{column_of}
 use Rattle.hr_derives.specs.Readings.{Reading, ◌▷◌, given}
 use Rattle.hr_derives.specs.Readings as reading
 use Rattle.hr_derives.specs.Blocks.{Parts, takes_semicolon, pieces_reading, braced_reading, implicit_reading, layout_reading, block_reading}
-use Rattle.hr_reader.specs.Ways.{Among, Way, Finder, any_of, gives, on, made_by, behind, ◌▶◌, one}
+use Rattle.hr_reader.specs.Ways.{Among, Way, Finder, gives, made_by, behind, ◌▶◌, one}
 use Rattle.hr_reader.specs.Tests.{is_special}
 use Rattle.hr_reader.specs.Blocks.{PartFinder, semicolon, ends, starting, semicolon_then, part_then, piece_ways, pieces_by, pieces, braced_ways, braced_by, braced, opened_as, implicit, without_braces, with_braces, block_ways, block}
 use Rattle.hr_reader.proofs.Ways.{Sound, Matches, is_sound, gives_sound, made_sound, made_found, on_sound_by, on_sound, found_on, behind_sound, behind_found, any_sound, chosen, among_map, if_among, among_if, both_are, are_both, one_matches, then_matches}
@@ -46,9 +45,11 @@ semicolon_matches n = record { sound = found; complete = read }
     found item [] us h = elim h [ ]
     found item (next ∷ ts) us h =
         let k = if_among (item, us) (next.item, ts) (is_special (codes ";") next.item && not (left_of n next)) h in
-        let b = both_are (is_special (codes ";") next.item) (not (left_of n next)) k.0 in
-        (subst IsSemicolon (sym (ap (λ (w : Way Item). w.0) k.1)) ((tests_special (codes ";")).passes next.item b.0),
-        (is_false (left_of n next) b.1, sym (ap (λ (w : Way Item). w.0) k.1), ap (λ (w : Way Item). w.1) k.1))
+        let b = both_are (is_special (codes ";") next.item) (not (left_of n next)) k.0 in (
+          subst IsSemicolon (sym (ap (λ (w : Way Item). w.0) k.1)) ((tests_special (codes ";")).passes next.item b.0),
+          (is_false (left_of n next) b.1, sym (ap (λ (w : Way Item). w.0) k.1), ap (λ (w : Way Item). w.1) k.1),
+        )
+
     read : (item : Item) (ts us : List Placed) → given (IsSemicolon item) (takes_semicolon n item) ts us → Among {T = Way Item} (item, us) (semicolon n ts)
     read item [] us r = elim r.1 [ ]
     read item (next ∷ ts) us r =
@@ -82,21 +83,30 @@ part_sound : {T : Type 0} (parts : Parts T) (found : PartFinder T) → PartsMatc
     → Sound (pieces_reading parts kind n place ending) (made_by part_then (starting n ending (behind (found n place) (λ q. rest q.1.0 q.1.1))))
 part_sound {T} parts found m kind n place ending rest s = made_sound part_then (record {
   sound = λ p ts us h.
-      let k = on_sound_by (starts_part n ending ts) (behind (found n place) (λ q. rest q.1.0 q.1.1)) (p, us) (mark false ts) h in
-      (mark false ts, (k.0, refl), (p.0.1.0, p.0.1.1,
-      (behind_sound {R = λ (q : T × (DeclPlace × Ending)). parts n place q.1.0 q.0 q.1.1} {Q = λ (q : T × (DeclPlace × Ending)). pieces_reading parts kind n q.1.0 q.1.1}
-      (is_sound (m n place)) (λ q. s q.1.0 q.1.1)).sound p (mark false ts) us k.1));
+      let k = on_sound_by (starts_part n ending ts) (behind (found n place) (λ q. rest q.1.0 q.1.1)) (p, us) (mark false ts) h in (
+        mark false ts,
+        (k.0, refl),
+        (
+          p.0.1.0,
+          p.0.1.1,
+          (behind_sound {R = λ (q : T × (DeclPlace × Ending)). parts n place q.1.0 q.0 q.1.1} {Q = λ (q : T × (DeclPlace × Ending)). pieces_reading parts kind n q.1.0 q.1.1}
+              (is_sound (m n place)) (λ q. s q.1.0 q.1.1)).sound p (mark false ts) us k.1,
+        ),
+      );
 })
 
 pieces_sound : {T : Type 0} (parts : Parts T) (found : PartFinder T) → PartsMatch parts found → (kind : BlockKind) (n k : ℕ) (place : DeclPlace) (ending : Ending)
     → Sound (pieces_reading parts kind n place ending) (pieces_by found kind n k place ending)
 pieces_sound parts found m kind n zero place ending = ends_sound parts kind n place ending
 pieces_sound {T} parts found m kind n (suc k) place ending =
-    any_sound (piece_ways found kind n place ending (pieces_by found kind n k))
-    (ends_sound parts kind n place ending,
-    (made_sound semicolon_then (behind_sound {R = λ item. given (IsSemicolon item) (takes_semicolon n item)} {Q = λ item. pieces_reading parts kind n place Ending.Nothing}
-    (is_sound (semicolon_matches n)) (λ item. pieces_sound parts found m kind n k place Ending.Nothing)),
-    (part_sound parts found m kind n place ending (pieces_by found kind n k) (λ next end. pieces_sound parts found m kind n k next end), tt)))
+    any_sound (piece_ways found kind n place ending (pieces_by found kind n k)) (
+      ends_sound parts kind n place ending,
+      (
+        made_sound semicolon_then (behind_sound {R = λ item. given (IsSemicolon item) (takes_semicolon n item)} {Q = λ item. pieces_reading parts kind n place Ending.Nothing}
+            (is_sound (semicolon_matches n)) (λ item. pieces_sound parts found m kind n k place Ending.Nothing)),
+        (part_sound parts found m kind n place ending (pieces_by found kind n k) (λ next end. pieces_sound parts found m kind n k next end), tt),
+      ),
+    )
 
 ends_found : (T : Type 0) (kind : BlockKind) (n : ℕ) (ending : Ending) (ts us : List Placed) → ends_block n kind ending ts ≡ true → us ≡ ts
     → Among {T = Way (List (Piece T))} ([], us) (ends kind n ending ts)
@@ -142,16 +152,27 @@ braced_sound : {T : Type 0} (parts : Parts T) (found : PartFinder T) → PartsMa
     → Sound (braced_reading parts place begins) (braced_by found k place begins)
 braced_sound parts found m zero place begins = gives_sound (λ ts. refl)
 braced_sound {T} parts found m (suc k) place begins =
-    any_sound (braced_ways found place begins (braced_by found k))
-    (gives_sound (λ ts. refl),
-    (made_sound semicolon_then (behind_sound {R = reading.one 0 IsSemicolon} {Q = λ item. braced_reading parts place true} (is_sound (one_matches 0 (tests_special (codes ";"))))
-    (λ item. braced_sound parts found m k place true)),
-    (on_sound begins (λ e. made_sound part_then (record {
-      sound = λ p ts us h.
-          (e, (p.0.1.0, p.0.1.1,
-          (behind_sound {R = λ (q : T × (DeclPlace × Ending)). parts 0 place q.1.0 q.0 q.1.1} {Q = λ (q : T × (DeclPlace × Ending)). braced_reading parts q.1.0 false}
-          (is_sound (m 0 place)) (λ q. braced_sound parts found m k q.1.0 false)).sound p ts us h));
-    })), tt)))
+    any_sound (braced_ways found place begins (braced_by found k)) (
+      gives_sound (λ ts. refl),
+      (
+        made_sound semicolon_then (behind_sound {R = reading.one 0 IsSemicolon} {Q = λ item. braced_reading parts place true} (is_sound (one_matches 0 (tests_special (codes ";"))))
+            (λ item. braced_sound parts found m k place true)),
+        (
+          on_sound begins (λ e. made_sound part_then (record {
+            sound = λ p ts us h. (
+              e,
+              (
+                p.0.1.0,
+                p.0.1.1,
+                (behind_sound {R = λ (q : T × (DeclPlace × Ending)). parts 0 place q.1.0 q.0 q.1.1} {Q = λ (q : T × (DeclPlace × Ending)). braced_reading parts q.1.0 false}
+                    (is_sound (m 0 place)) (λ q. braced_sound parts found m k q.1.0 false)).sound p ts us h,
+              ),
+            );
+          })),
+          tt,
+        ),
+      ),
+    )
 
 braced_complete : {T : Type 0} (parts : Parts T) (found : PartFinder T) → PartsMatch parts found → PartsShrink parts → (k : ℕ) (place : DeclPlace) (begins : Bool)
     (xs : List (Piece T)) (ts us : List Placed) → length ts ≤ k → braced_reading parts place begins xs ts us → Among {T = Way (List (Piece T))} (xs, us) (braced_by found k place begins ts)
@@ -210,7 +231,7 @@ implicit_match parts found q less kind m place = record {
 
 explicit_match : {T : Type 0} (parts : Parts T) (found : PartFinder T) → PartsMatch parts found → PartsShrink parts → (kind : BlockKind) (m : ℕ) (place : DeclPlace)
     → Matches (λ (p : Item × (List (Piece T) × Item)). layout_reading parts kind m place (Layout.Explicit p.0 p.1.1) p.1.0)
-      (one 0 (is_special (codes "{")) ▶ braced found place true ▶ one 0 (is_special (codes "}")))
+    (one 0 (is_special (codes "{")) ▶ braced found place true ▶ one 0 (is_special (codes "}")))
 explicit_match parts found q less kind m place =
     then_matches (one_matches 0 (tests_special (codes "{"))) (then_matches (braced_match parts found q less place true) (one_matches 0 (tests_special (codes "}"))))
 

@@ -1,5 +1,5 @@
 -- The declarations and alternatives that are found are those that are read.
-use Rattle.std.proofs.Common.{◌≡◌, ◌≢◌, ◌≤◌, ◌<◌, ℕ, zero, suc, Bool, true, false, ◌==◌, List, [], ◌∷◌, length, Option, Some, None, refl, sym, ap, ◌∙◌, subst}
+use Rattle.std.proofs.Common.{◌≡◌, ◌≤◌, ◌<◌, ℕ, zero, suc, Bool, true, false, ◌==◌, List, [], ◌∷◌, length, Option, Some, None, refl, sym, subst}
 use Rattle.std.proofs.lemmas.Bool.{eqb-true, eq-eqb}
 use lib.Chars.{codes}
 use Rattle.hr_base.specs.declared.lexeme.Class.{Class}
@@ -7,7 +7,6 @@ use Rattle.hr_base.specs.declared.lexeme.Ending.{Ending}
 use Rattle.hr_base.specs.declared.lexeme.Item.{Item}
 use Rattle.hr_rules.specs.declared.block.Placed.{Placed}
 use Rattle.hr_rules.specs.Names.{is_one_of}
-use Rattle.hr_tree.specs.declared.lists.Block.{Block}
 use Rattle.hr_tree.specs.declared.lists.Listed.{Listed}
 use Rattle.hr_tree.specs.declared.names.Constructor.{Constructor}
 use Rattle.hr_tree.specs.declared.names.Operator.{Operator}
@@ -27,26 +26,25 @@ use Rattle.hr_tree.specs.declared.expressions.Decl.{Decl, out-Decl, roll-Decl}
 use Rattle.hr_tree.specs.declared.expressions.Decl.TheOpen.{Decl-F, Alt-F}
 use Rattle.hr_tree.specs.declared.expressions.Decl.TheViews.{roll-out-Decl, out-roll-Decl, roll-out-Alt, out-roll-Alt}
 use Rattle.hr_tree.specs.declared.expressions.Qualifier.{Qualifier}
-use Rattle.hr_tree.specs.declared.expressions.Alt.{Alt, out-Alt, roll-Alt}
+use Rattle.hr_tree.specs.declared.expressions.Alt.{Alt, out-Alt}
 use Rattle.hr_tree.specs.declared.modules.Import.{Import}
-use Rattle.hr_tree.specs.Names.{variable_items, constructor_items, operator_items}
+use Rattle.hr_tree.specs.Names.{constructor_items, operator_items}
 use Rattle.hr_grammar.specs.Nodes.{TyPlace, PatPlace, ExpPlace, DeclPlace}
 use Rattle.hr_grammar.specs.Declarations.{fixity_words, takes_import, takes_top, takes_local}
 use Rattle.hr_grammar.specs.Spans.{part_ending}
 use Rattle.hr_grammar.specs.Spelled.{IsVariable, IsOwnConstructor, IsOwnConstructorOperator, IsOwnOperator}
-use Rattle.hr_grammar.specs.Words.{IsOf, IsWord, IsBar, IsComma, IsEquals, IsArrow, IsLeftParen, IsRightParen}
+use Rattle.hr_grammar.specs.Words.{IsOf, IsBar, IsComma, IsArrow, IsLeftParen, IsRightParen}
 use Rattle.hr_derives.specs.Readings.{Reading, ◌▷◌, given, spelled}
 use Rattle.hr_derives.specs.Readings as reading
 use Rattle.hr_derives.specs.Declarations.{type_head_reading, construction_reading, new_construction_reading, arguments_reading, left_head_reading, closed_reading, left_side_reading, guarded_reading, guards_reading, plain_reading, body_reading, right_side_reading, decl_reading, decl_over, alt_over}
-use Rattle.hr_reader.specs.Ways.{Among, Way, Finder, ◌⊕◌, ◌▶◌, on, passing, made_by, one, inside, ends_as}
-use Rattle.hr_reader.specs.Tests.{is_of, is_word}
+use Rattle.hr_reader.specs.Ways.{Among, Way, ◌▶◌, made_by, one, inside}
 use Rattle.hr_reader.specs.Declarations.{type_head_of, type_heads, construction_ways, constructions, has_one_type, new_constructions, arguments, left_head_ways, left_heads, closed_of, closings, left_side_of, left_sides, guarded_of, guarded, last_guarded, guarded_then, guards_by, guards, body_ways, bodies, RightSide, without_where, with_where, right_side_ways, right_sides, decl_ways, decl_layers, decl_found, alt_of, alt_found}
-use Rattle.hr_reader.proofs.Ways.{among_left, among_right, Sound, Matches, Tests, Production, is_sound, either_sound, made_sound, made_found, found_on, behind_sound, behind_found, any_sound, chosen, on_sound, produced, produced_on, sound_production, made_matches, one_matches, then_matches, passing_matches, maybe_matches, inside_matches, ends_as_matches, so_matches, so_given, same_matches}
+use Rattle.hr_reader.proofs.Ways.{among_left, among_right, Sound, Matches, Tests, Production, is_sound, either_sound, made_sound, made_found, behind_sound, behind_found, any_sound, chosen, on_sound, produced, produced_on, sound_production, made_matches, one_matches, then_matches, passing_matches, maybe_matches, inside_matches, so_matches, so_given, same_matches}
 use Rattle.hr_reader.proofs.Tests.{tests_of, tests_word, tests_reserved, tests_special, tests_digit, tests_one, tests_both, tests_at}
 use Rattle.hr_reader.proofs.Lists.{Shrinks, in_turn_matches, separated_matches, shorter, none_left, all_fit}
 use Rattle.hr_reader.proofs.Names.{one_shrinks, variable_shrinks, operator_shrinks, constructor_shrinks, variables_match, own_constructors_match, own_variable_operators_match, own_constructor_operators_match, own_operators_match}
 use Rattle.hr_reader.proofs.Imports.{imports_match}
-use Rattle.hr_reader.proofs.Takes.{Takes, Stays, some, first_takes, second_takes, both_stay, given_takes, one_takes, takes_by, maybe_stays, in_turn_stays}
+use Rattle.hr_reader.proofs.Takes.{Stays, some, first_takes, both_stay, one_takes, takes_by, in_turn_stays}
 use Rattle.hr_reader.proofs.Finders.{Level}
 
 type_heads_match : (n : ℕ) → Matches (type_head_reading n) (type_heads n)
@@ -235,9 +233,10 @@ plain_match b n t = then_matches (one_matches n t) (b.each.exp n true ExpPlace.W
 
 bodies_sound : (b : Level) (n : ℕ) {IsMark : Item → Type 0} {is_mark : Item → Bool} → Tests IsMark is_mark → Sound (BodyReading b n IsMark) (bodies b.found n is_mark)
 bodies_sound b n {IsMark} {is_mark} t =
-    any_sound (body_ways b.found n is_mark)
-    (made_sound (turned false) (made_sound plain_of (record { sound = λ p ts us h. (p.1.1, refl, (plain_match b n t).sound p ts us h) })),
-    (made_sound (turned true) (made_sound many_of (record { sound = λ p ts us h. (p.1, refl, (guards_match b n t).sound p ts us h) })), tt))
+    any_sound (body_ways b.found n is_mark) (
+      made_sound (turned false) (made_sound plain_of (record { sound = λ p ts us h. (p.1.1, refl, (plain_match b n t).sound p ts us h) })),
+      (made_sound (turned true) (made_sound many_of (record { sound = λ p ts us h. (p.1, refl, (guards_match b n t).sound p ts us h) })), tt),
+    )
 
 bodies_complete : (b : Level) (n : ℕ) {IsMark : Item → Type 0} {is_mark : Item → Bool} → Tests IsMark is_mark → (body : Body Exp) (ending : Ending) (ts us : List Placed)
     → body_reading b.read n IsMark body ending ts us → Among {T = Way (Body Exp × Ending)} ((body, ending), us) (bodies b.found n is_mark ts)
@@ -320,35 +319,45 @@ abbrev import_decl : (b : Level) (n : ℕ) (place : DeclPlace) → takes_import 
 import_decl b n place e = (_, so_matches (refl, e) (imports_match n))
 
 abbrev synonym : (b : Level) (n : ℕ) (place : DeclPlace) → takes_top place ≡ true → Production (DeclReading b n place) synonym_of
-synonym b n place e =
-    (_, so_matches (refl, e)
-    (then_matches (one_matches n (tests_word (codes "type"))) (then_matches (type_heads_match n) (then_matches (one_matches n (tests_reserved (codes "="))) (b.each.ty n TyPlace.Whole)))))
+synonym b n place e = (
+  _,
+  so_matches (refl, e)
+      (then_matches (one_matches n (tests_word (codes "type"))) (then_matches (type_heads_match n) (then_matches (one_matches n (tests_reserved (codes "="))) (b.each.ty n TyPlace.Whole)))),
+)
 
 abbrev data_decl : (b : Level) (n : ℕ) (place : DeclPlace) → takes_top place ≡ true → Production (DeclReading b n place) data_of
-data_decl b n place e =
-    (_, so_given refl (so_given e (passing_matches (tests_at (λ (p : DataParts). p.1.1.1) tests_one)
-    (then_matches (one_matches n (tests_word (codes "data")))
-    (then_matches (type_heads_match n)
-    (then_matches (one_matches n (tests_reserved (codes "="))) (separated_matches (one_matches n (tests_reserved (codes "|"))) (constructions_match b n) (one_shrinks n IsBar) (constructions_shrink b n))))))))
+data_decl b n place e = (
+  _,
+  so_given refl (so_given e (passing_matches (tests_at (λ (p : DataParts). p.1.1.1) tests_one)
+      (then_matches (one_matches n (tests_word (codes "data")))
+      (then_matches (type_heads_match n)
+      (then_matches (one_matches n (tests_reserved (codes "="))) (separated_matches (one_matches n (tests_reserved (codes "|"))) (constructions_match b n) (one_shrinks n IsBar) (constructions_shrink b n))))))),
+)
 
 abbrev newtype : (b : Level) (n : ℕ) (place : DeclPlace) → takes_top place ≡ true → Production (DeclReading b n place) newtype_of
-newtype b n place e =
-    (_, so_matches (refl, e)
-    (then_matches (one_matches n (tests_word (codes "newtype"))) (then_matches (type_heads_match n) (then_matches (one_matches n (tests_reserved (codes "="))) (new_constructions_match b n)))))
+newtype b n place e = (
+  _,
+  so_matches (refl, e)
+      (then_matches (one_matches n (tests_word (codes "newtype"))) (then_matches (type_heads_match n) (then_matches (one_matches n (tests_reserved (codes "="))) (new_constructions_match b n)))),
+)
 
 abbrev signature : (b : Level) (n : ℕ) (place : DeclPlace) → takes_local place ≡ true → Production (DeclReading b n place) signature_of
-signature b n place e =
-    (_, so_given refl (so_given e (passing_matches (tests_at (λ (p : SignatureParts). p.0) tests_one)
-    (then_matches (separated_matches (one_matches n (tests_special (codes ","))) (variables_match n) (one_shrinks n IsComma) (variable_shrinks n IsVariable))
-    (then_matches (one_matches n (tests_reserved (codes "::"))) (b.each.ty n TyPlace.Whole))))))
+signature b n place e = (
+  _,
+  so_given refl (so_given e (passing_matches (tests_at (λ (p : SignatureParts). p.0) tests_one)
+      (then_matches (separated_matches (one_matches n (tests_special (codes ","))) (variables_match n) (one_shrinks n IsComma) (variable_shrinks n IsVariable))
+      (then_matches (one_matches n (tests_reserved (codes "::"))) (b.each.ty n TyPlace.Whole))))),
+)
 
 abbrev fixity : (b : Level) (n : ℕ) (place : DeclPlace) → takes_local place ≡ true → Production (DeclReading b n place) fixity_of
-fixity b n place e =
-    (_, so_given refl (so_given e (passing_matches
-    (tests_both (tests_itself (λ (p : FixityParts). is_one_of fixity_words p.0.lexeme.text)) (tests_at (λ (p : FixityParts). p.1.1) tests_one))
-    (then_matches (one_matches n (tests_of Class.ReservedId))
-    (then_matches (maybe_matches (one_matches n tests_digit))
-    (separated_matches (one_matches n (tests_special (codes ","))) (own_operators_match n) (one_shrinks n IsComma) (operator_shrinks n IsOwnOperator)))))))
+fixity b n place e = (
+  _,
+  so_given refl (so_given e (passing_matches
+      (tests_both (tests_itself (λ (p : FixityParts). is_one_of fixity_words p.0.lexeme.text)) (tests_at (λ (p : FixityParts). p.1.1) tests_one))
+      (then_matches (one_matches n (tests_of Class.ReservedId))
+      (then_matches (maybe_matches (one_matches n tests_digit))
+      (separated_matches (one_matches n (tests_special (codes ","))) (own_operators_match n) (one_shrinks n IsComma) (operator_shrinks n IsOwnOperator)))))),
+)
 
 abbrev equation : (b : Level) (n : ℕ) (place : DeclPlace) → takes_local place ≡ true → Production (DeclReading b n place) equation_of
 equation b n place e = (_, so_matches e (then_matches (left_sides_match b n) (right_sides_match b n (tests_reserved (codes "=")))))
@@ -358,15 +367,28 @@ binding b n place e = (_, so_matches e (then_matches (b.each.pat n PatPlace.Whol
 
 decls_sound : (b : Level) (n : ℕ) (place : DeclPlace) → Sound (DeclReading b n place) (decl_layers b.found n place)
 decls_sound b n place =
-    any_sound (decl_ways b.found n place)
-    (on_sound (takes_import place) (λ e. sound_production import_of (import_decl b n place e)),
-    (on_sound (takes_top place) (λ e. sound_production synonym_of (synonym b n place e)),
-    (on_sound (takes_top place) (λ e. sound_production data_of (data_decl b n place e)),
-    (on_sound (takes_top place) (λ e. sound_production newtype_of (newtype b n place e)),
-    (on_sound (takes_local place) (λ e. sound_production signature_of (signature b n place e)),
-    (on_sound (takes_local place) (λ e. sound_production fixity_of (fixity b n place e)),
-    (on_sound (takes_local place) (λ e. sound_production equation_of (equation b n place e)),
-    (on_sound (takes_local place) (λ e. sound_production binding_of (binding b n place e)), tt))))))))
+    any_sound (decl_ways b.found n place) (
+      on_sound (takes_import place) (λ e. sound_production import_of (import_decl b n place e)),
+      (
+        on_sound (takes_top place) (λ e. sound_production synonym_of (synonym b n place e)),
+        (
+          on_sound (takes_top place) (λ e. sound_production data_of (data_decl b n place e)),
+          (
+            on_sound (takes_top place) (λ e. sound_production newtype_of (newtype b n place e)),
+            (
+              on_sound (takes_local place) (λ e. sound_production signature_of (signature b n place e)),
+              (
+                on_sound (takes_local place) (λ e. sound_production fixity_of (fixity b n place e)),
+                (
+                  on_sound (takes_local place) (λ e. sound_production equation_of (equation b n place e)),
+                  (on_sound (takes_local place) (λ e. sound_production binding_of (binding b n place e)), tt),
+                ),
+              ),
+            ),
+          ),
+        ),
+      ),
+    )
 
 -- where the ending is that of the production
 with_ending : {T : Type 0} (R : Ending → Type 0) (x : T) (ending other : Ending) (us : List Placed) (ways : List (Way (T × Ending))) → ending ≡ other

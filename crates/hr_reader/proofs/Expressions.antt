@@ -1,16 +1,13 @@
 -- The expressions that are found are those that are read.
-use Rattle.std.proofs.Common.{◌≡◌, ◌≢◌, ◌≤◌, ◌<◌, ℕ, zero, suc, Bool, true, List, [], ◌∷◌, length, Option, Some, None, refl, sym, ap, ◌∙◌, subst, arith}
+use Rattle.std.proofs.Common.{◌≡◌, ◌≤◌, ◌<◌, ℕ, zero, suc, Bool, true, List, [], ◌∷◌, length, Option, Some, None, refl, sym, subst, arith}
 use lib.Chars.{codes}
-use Rattle.hr_base.specs.declared.lexeme.Class.{Class}
 use Rattle.hr_base.specs.declared.lexeme.Ending.{Ending}
 use Rattle.hr_base.specs.declared.lexeme.Item.{Item}
 use Rattle.hr_rules.specs.declared.block.Placed.{Placed}
 use Rattle.hr_tree.specs.declared.lists.Block.{Block}
 use Rattle.hr_tree.specs.declared.lists.Listed.{Listed}
 use Rattle.hr_tree.specs.declared.lists.Operand.{Operand}
-use Rattle.hr_tree.specs.declared.names.Constructor.{Constructor}
 use Rattle.hr_tree.specs.declared.names.Operator.{Operator}
-use Rattle.hr_tree.specs.declared.names.Variable.{Variable}
 use Rattle.hr_tree.specs.declared.patterns.Pat.{Pat}
 use Rattle.hr_tree.specs.declared.types.Ty.{Ty}
 use Rattle.hr_tree.specs.declared.expressions.Exp.{Exp, out-Exp, roll-Exp}
@@ -28,14 +25,14 @@ use Rattle.hr_grammar.specs.Words.{IsComma, IsMinus, IsBackArrow, IsWord}
 use Rattle.hr_derives.specs.Readings.{Reading, ◌▷◌, spelled}
 use Rattle.hr_derives.specs.Readings as reading
 use Rattle.hr_derives.specs.Expressions.{applied, closed, annotated, whole, exp_operands, qualifier_reading, qualifier_over, atom_reading, exp_reading, exp_over}
-use Rattle.hr_reader.specs.Ways.{Among, Way, Finder, ◌⊕◌, ◌▶◌, on, made_by, one, maybe, inside}
+use Rattle.hr_reader.specs.Ways.{Among, Way, Finder, ◌▶◌, on, made_by, one, maybe, inside}
 use Rattle.hr_reader.specs.Tests.{is_minus}
 use Rattle.hr_reader.specs.Names.{operators}
 use Rattle.hr_reader.specs.Expressions.{last_alone, operand_then, operands_by, exp_operands_found, qualifier_ways, qualifier_layers, qualifier_found, atom_ways, atom_layers, exp_ways, exp_layers, exp_found}
 use Rattle.hr_reader.specs.Expressions as found
 use Rattle.hr_reader.proofs.Ways.{among_left, among_right, Sound, Matches, Production, is_sound, either_sound, made_sound, made_found, behind_sound, behind_found, any_sound, chosen, on_sound, found_on, produced, produced_on, sound_production, made_matches, one_matches, then_matches, passing_matches, maybe_matches, inside_matches, so_matches, so_given, same_matches}
-use Rattle.hr_reader.proofs.Tests.{tests_of, tests_word, tests_reserved, tests_special, tests_literal, tests_minus, tests_no_minus, tests_one, tests_has_two, tests_parts, tests_sequence, tests_at}
-use Rattle.hr_reader.proofs.Lists.{Shrinks, in_turn_matches, separated_matches, none_left, all_fit}
+use Rattle.hr_reader.proofs.Tests.{tests_word, tests_reserved, tests_special, tests_literal, tests_minus, tests_no_minus, tests_one, tests_has_two, tests_parts, tests_sequence, tests_at}
+use Rattle.hr_reader.proofs.Lists.{Shrinks, in_turn_matches, separated_matches, all_fit}
 use Rattle.hr_reader.proofs.Names.{one_shrinks, operator_shrinks, named_variables_match, constructors_match, operators_match}
 use Rattle.hr_reader.proofs.Finders.{Level}
 
@@ -208,17 +205,21 @@ abbrev tuple_of : Item × (List (Listed Exp) × Item) → Exp-F Decl Exp Qualifi
 tuple_of p = Exp-F.Tuple p.0 p.1.0 p.1.1
 
 abbrev tuple_atom : (b : Level) (n : ℕ) → Production (atom_reading b.read n) tuple_of
-tuple_atom b n =
-    (_, passing_matches (tests_at (λ (p : Item × (List (Listed Exp) × Item)). p.1.0) tests_parts)
-    (then_matches (one_matches n (tests_special (codes "("))) (then_matches (separated_matches (one_matches n (tests_special (codes ","))) (whole_matches b n true) (one_shrinks n IsComma) (placed_shrinks b n true ExpPlace.Whole)) (one_matches n (tests_special (codes ")"))))))
+tuple_atom b n = (
+  _,
+  passing_matches (tests_at (λ (p : Item × (List (Listed Exp) × Item)). p.1.0) tests_parts)
+      (then_matches (one_matches n (tests_special (codes "("))) (then_matches (separated_matches (one_matches n (tests_special (codes ","))) (whole_matches b n true) (one_shrinks n IsComma) (placed_shrinks b n true ExpPlace.Whole)) (one_matches n (tests_special (codes ")"))))),
+)
 
 abbrev list_of : Item × (List (Listed Exp) × Item) → Exp-F Decl Exp Qualifier Alt
 list_of p = Exp-F.List p.0 p.1.0 p.1.1
 
 abbrev list_atom : (b : Level) (n : ℕ) → Production (atom_reading b.read n) list_of
-list_atom b n =
-    (_, passing_matches (tests_at (λ (p : Item × (List (Listed Exp) × Item)). p.1.0) tests_one)
-    (then_matches (one_matches n (tests_special (codes "["))) (then_matches (separated_matches (one_matches n (tests_special (codes ","))) (whole_matches b n true) (one_shrinks n IsComma) (placed_shrinks b n true ExpPlace.Whole)) (one_matches n (tests_special (codes "]"))))))
+list_atom b n = (
+  _,
+  passing_matches (tests_at (λ (p : Item × (List (Listed Exp) × Item)). p.1.0) tests_one)
+      (then_matches (one_matches n (tests_special (codes "["))) (then_matches (separated_matches (one_matches n (tests_special (codes ","))) (whole_matches b n true) (one_shrinks n IsComma) (placed_shrinks b n true ExpPlace.Whole)) (one_matches n (tests_special (codes "]"))))),
+)
 
 abbrev from_of : Item × (Exp × (Item × Item)) → Exp-F Decl Exp Qualifier Alt
 from_of p = Exp-F.From p.0 p.1.0 p.1.1.0 p.1.1.1
@@ -248,9 +249,11 @@ abbrev comprehension_of : Item × (Exp × (Item × (List (Listed Qualifier) × I
 comprehension_of p = Exp-F.Comprehension p.0 p.1.0 p.1.1.0 p.1.1.1.0 p.1.1.1.1
 
 abbrev comprehension_atom : (b : Level) (n : ℕ) → Production (atom_reading b.read n) comprehension_of
-comprehension_atom b n =
-    (_, passing_matches (tests_at (λ (p : Item × (Exp × (Item × (List (Listed Qualifier) × Item)))). p.1.1.1.0) tests_one)
-    (then_matches (one_matches n (tests_special (codes "["))) (then_matches (whole_matches b n true) (then_matches (one_matches n (tests_reserved (codes "|"))) (then_matches (separated_matches (one_matches n (tests_special (codes ","))) (qualifiers_match b n) (one_shrinks n IsComma) (qualifiers_shrink b n)) (one_matches n (tests_special (codes "]"))))))))
+comprehension_atom b n = (
+  _,
+  passing_matches (tests_at (λ (p : Item × (Exp × (Item × (List (Listed Qualifier) × Item)))). p.1.1.1.0) tests_one)
+      (then_matches (one_matches n (tests_special (codes "["))) (then_matches (whole_matches b n true) (then_matches (one_matches n (tests_reserved (codes "|"))) (then_matches (separated_matches (one_matches n (tests_special (codes ","))) (qualifiers_match b n) (one_shrinks n IsComma) (qualifiers_shrink b n)) (one_matches n (tests_special (codes "]"))))))),
+)
 
 abbrev left_section_of : Item × (Exp × (Operator × Item)) → Exp-F Decl Exp Qualifier Alt
 left_section_of p = Exp-F.LeftSection p.0 p.1.0 p.1.1.0 p.1.1.1
@@ -262,27 +265,54 @@ abbrev right_section_of : Item × (Operator × (Exp × Item)) → Exp-F Decl Exp
 right_section_of p = Exp-F.RightSection p.0 p.1.0 p.1.1.0 p.1.1.1
 
 abbrev right_section_atom : (b : Level) (n : ℕ) → Production (atom_reading b.read n) right_section_of
-right_section_atom b n =
-    (_, passing_matches (tests_at (λ (p : Item × (Operator × (Exp × Item))). p.1.0) tests_no_minus)
-    (then_matches (one_matches n (tests_special (codes "("))) (then_matches (operators_match n) (then_matches (placed_matches b n true ExpPlace.Sequence) (one_matches n (tests_special (codes ")")))))))
+right_section_atom b n = (
+  _,
+  passing_matches (tests_at (λ (p : Item × (Operator × (Exp × Item))). p.1.0) tests_no_minus)
+      (then_matches (one_matches n (tests_special (codes "("))) (then_matches (operators_match n) (then_matches (placed_matches b n true ExpPlace.Sequence) (one_matches n (tests_special (codes ")")))))),
+)
 
 atoms_sound : (b : Level) (n : ℕ) → Sound (atom_reading b.read n) (atom_layers b.found n)
 atoms_sound b n =
-    any_sound (atom_ways b.found n)
-    (sound_production Exp-F.Variable (variable_atom b n),
-    (sound_production Exp-F.Constructor (constructor_atom b n),
-    (sound_production Exp-F.Literal (literal_atom b n),
-    (sound_production group_of (group_atom b n),
-    (sound_production tuple_of (tuple_atom b n),
-    (sound_production list_of (list_atom b n),
-    (sound_production from_of (from_atom b n),
-    (sound_production from_then_of (from_then_atom b n),
-    (sound_production from_to_of (from_to_atom b n),
-    (sound_production from_then_to_of (from_then_to_atom b n),
-    (sound_production comprehension_of (comprehension_atom b n),
-    (sound_production left_section_of (left_section_atom b n),
-    (sound_production right_section_of (right_section_atom b n),
-    tt)))))))))))))
+    any_sound (atom_ways b.found n) (
+      sound_production Exp-F.Variable (variable_atom b n),
+      (
+        sound_production Exp-F.Constructor (constructor_atom b n),
+        (
+          sound_production Exp-F.Literal (literal_atom b n),
+          (
+            sound_production group_of (group_atom b n),
+            (
+              sound_production tuple_of (tuple_atom b n),
+              (
+                sound_production list_of (list_atom b n),
+                (
+                  sound_production from_of (from_atom b n),
+                  (
+                    sound_production from_then_of (from_then_atom b n),
+                    (
+                      sound_production from_to_of (from_to_atom b n),
+                      (
+                        sound_production from_then_to_of (from_then_to_atom b n),
+                        (
+                          sound_production comprehension_of (comprehension_atom b n),
+                          (
+                            sound_production left_section_of (left_section_atom b n),
+                            (
+                              sound_production right_section_of (right_section_atom b n),
+                              tt,
+                            ),
+                          ),
+                        ),
+                      ),
+                    ),
+                  ),
+                ),
+              ),
+            ),
+          ),
+        ),
+      ),
+    )
 
 atoms_complete : (b : Level) (n : ℕ) (layer : Exp-F Decl Exp Qualifier Alt) (ts us : List Placed) → atom_reading b.read n layer ts us
     → Among {T = Way (Exp-F Decl Exp Qualifier Alt)} (layer, us) (atom_layers b.found n ts)
@@ -381,9 +411,11 @@ abbrev case : (b : Level) (n : ℕ) (free : Bool) (place : ExpPlace) → takes_o
 case b n free place e = (_, so_matches (refl, e) (then_matches (one_matches n (tests_word (codes "case"))) (then_matches (whole_matches b n free) (then_matches (one_matches n (tests_word (codes "of"))) (b.each.alternatives n)))))
 
 abbrev lambda : (b : Level) (n : ℕ) (free : Bool) (place : ExpPlace) → takes_open place ≡ true → Production (ExpReading b n free place) lambda_of
-lambda b n free place e =
-    (_, so_given e (passing_matches (tests_at (λ (p : Item × (List Pat × (Item × (Exp × Ending)))). p.1.0) tests_one)
-    (then_matches (one_matches n (tests_reserved (codes "\\"))) (then_matches (in_turn_matches (b.each.pat n PatPlace.Atomic) (b.less.pat n PatPlace.Atomic)) (then_matches (one_matches n (tests_reserved (codes "->"))) (b.each.exp n free ExpPlace.Whole))))))
+lambda b n free place e = (
+  _,
+  so_given e (passing_matches (tests_at (λ (p : Item × (List Pat × (Item × (Exp × Ending)))). p.1.0) tests_one)
+      (then_matches (one_matches n (tests_reserved (codes "\\"))) (then_matches (in_turn_matches (b.each.pat n PatPlace.Atomic) (b.less.pat n PatPlace.Atomic)) (then_matches (one_matches n (tests_reserved (codes "->"))) (b.each.exp n free ExpPlace.Whole))))),
+)
 
 abbrev let_in : (b : Level) (n : ℕ) (free : Bool) (place : ExpPlace) → takes_open place ≡ true → Production (ExpReading b n free place) let_of
 let_in b n free place e = (_, so_matches e (then_matches (one_matches n (tests_word (codes "let"))) (then_matches (b.each.declarations n DeclPlace.Local) (then_matches (one_matches n (tests_word (codes "in"))) (b.each.exp n free ExpPlace.Whole)))))
@@ -400,15 +432,28 @@ annotation b n free place e f = (_, so_matches (refl, (e, f)) (then_matches (pla
 
 exps_sound : (b : Level) (n : ℕ) (free : Bool) (place : ExpPlace) → Sound (ExpReading b n free place) (exp_layers b.found n free place)
 exps_sound b n free place =
-    any_sound (exp_ways b.found n free place)
-    (made_sound (λ x. (x, applied)) (record { sound = λ x ts us h. atom_read b n free place x ts us ((atoms_match b n).sound x ts us h) }),
-    (on_sound (takes_operand place) (λ e. sound_production apply_of (apply b n free place e)),
-    (on_sound (takes_operand place) (λ e. sound_production case_of (case b n free place e)),
-    (on_sound (takes_open place) (λ e. sound_production lambda_of (lambda b n free place e)),
-    (on_sound (takes_open place) (λ e. sound_production let_of (let_in b n free place e)),
-    (on_sound (takes_open place) (λ e. sound_production if_of (if_then b n free place e)),
-    (on_sound (takes_infix place) (λ e. sound_production infix_of (infix_all b n free place e)),
-    (on_sound (takes_annotation place) (λ e. on_sound free (λ f. sound_production annotated_of (annotation b n free place e f))), tt))))))))
+    any_sound (exp_ways b.found n free place) (
+      made_sound (λ x. (x, applied)) (record { sound = λ x ts us h. atom_read b n free place x ts us ((atoms_match b n).sound x ts us h) }),
+      (
+        on_sound (takes_operand place) (λ e. sound_production apply_of (apply b n free place e)),
+        (
+          on_sound (takes_operand place) (λ e. sound_production case_of (case b n free place e)),
+          (
+            on_sound (takes_open place) (λ e. sound_production lambda_of (lambda b n free place e)),
+            (
+              on_sound (takes_open place) (λ e. sound_production let_of (let_in b n free place e)),
+              (
+                on_sound (takes_open place) (λ e. sound_production if_of (if_then b n free place e)),
+                (
+                  on_sound (takes_infix place) (λ e. sound_production infix_of (infix_all b n free place e)),
+                  (on_sound (takes_annotation place) (λ e. on_sound free (λ f. sound_production annotated_of (annotation b n free place e f))), tt),
+                ),
+              ),
+            ),
+          ),
+        ),
+      ),
+    )
 
 -- where the ending is that of the production
 with_ending : {T : Type 0} (R : Ending → Type 0) (x : T) (ending other : Ending) (us : List Placed) (ways : List (Way (T × Ending))) → ending ≡ other

@@ -1,21 +1,15 @@
 -- The imports and headers that are found are those that are read.
-use Rattle.std.proofs.Common.{◌≡◌, ℕ, List, Option, refl}
+use Rattle.std.proofs.Common.{ℕ, List, Option, refl}
 use lib.Chars.{codes}
 use Rattle.hr_base.specs.declared.lexeme.Class.{Class}
 use Rattle.hr_base.specs.declared.lexeme.Item.{Item}
 use Rattle.hr_rules.specs.declared.block.Placed.{Placed}
 use Rattle.hr_tree.specs.declared.lists.Listed.{Listed}
 use Rattle.hr_tree.specs.declared.names.Constructor.{Constructor}
-use Rattle.hr_tree.specs.declared.names.Variable.{Variable}
-use Rattle.hr_tree.specs.declared.modules.NameList.{NameList}
 use Rattle.hr_tree.specs.declared.modules.Export.{Export}
 use Rattle.hr_tree.specs.declared.modules.Members.{Members}
-use Rattle.hr_tree.specs.declared.modules.Import.{Import}
-use Rattle.hr_tree.specs.declared.modules.Alias.{Alias}
-use Rattle.hr_tree.specs.declared.modules.ImportNames.{ImportNames}
 use Rattle.hr_tree.specs.declared.modules.Imported.{Imported}
-use Rattle.hr_tree.specs.declared.modules.Header.{Header}
-use Rattle.hr_tree.specs.Names.{variable_items, constructor_items}
+use Rattle.hr_tree.specs.Names.{constructor_items}
 use Rattle.hr_grammar.specs.Spelled.{IsVariable, IsNamedVariable, IsOwnConstructor}
 use Rattle.hr_grammar.specs.Words.{IsOf, IsWord, IsComma, IsDots, IsLeftParen, IsRightParen}
 use Rattle.hr_grammar.specs.Imports.{IsTypeName}
@@ -24,7 +18,7 @@ use Rattle.hr_derives.specs.Readings as reading
 use Rattle.hr_derives.specs.Imports.{members_reading, name_list_reading, export_reading, imported_reading, alias_reading, import_names_reading, import_reading, header_reading}
 use Rattle.hr_reader.specs.Ways.{Among, Way, Finder}
 use Rattle.hr_reader.specs.Imports.{member_ways, members, names_of, name_list, export_ways, exports, imported_ways, imported, alias_of, aliases, import_names_of, import_names, import_of, imports, header_of, headers}
-use Rattle.hr_reader.proofs.Ways.{Sound, Matches, Production, any_sound, chosen, produced, sound_production, made_matches, one_matches, then_matches, maybe_matches}
+use Rattle.hr_reader.proofs.Ways.{Matches, Production, any_sound, chosen, produced, sound_production, made_matches, one_matches, then_matches, maybe_matches}
 use Rattle.hr_reader.proofs.Tests.{tests_of, tests_word, tests_import_word, tests_reserved, tests_special, tests_two}
 use Rattle.hr_reader.proofs.Lists.{Shrinks, separated_matches}
 use Rattle.hr_reader.proofs.Takes.{some, first_takes, both_stay, one_takes, maybe_stays, separated_stays}
@@ -41,10 +35,12 @@ abbrev all_members : (n : ℕ) → Production (members_reading n) all_of
 all_members n = (_, then_matches (one_matches n (tests_special (codes "("))) (then_matches (one_matches n (tests_reserved (codes ".."))) (one_matches n (tests_special (codes ")")))))
 
 abbrev named_members : (n : ℕ) → Production (members_reading n) named_of
-named_members n =
-    (_, then_matches (one_matches n (tests_special (codes "(")))
-    (then_matches (separated_matches (one_matches n (tests_special (codes ","))) (own_constructors_match n) (one_shrinks n IsComma) (constructor_shrinks n IsOwnConstructor))
-    (one_matches n (tests_special (codes ")")))))
+named_members n = (
+  _,
+  then_matches (one_matches n (tests_special (codes "(")))
+      (then_matches (separated_matches (one_matches n (tests_special (codes ","))) (own_constructors_match n) (one_shrinks n IsComma) (constructor_shrinks n IsOwnConstructor))
+      (one_matches n (tests_special (codes ")")))),
+)
 
 members_complete : (n : ℕ) (x : Members) (ts us : List Placed) → members_reading n x ts us → Among {T = Way Members} (x, us) (members n ts)
 members_complete n (Members.All left dots right) ts us r = chosen (member_ways n) 0 _ ts us (produced (members_reading n) all_of (all_members n) (left, (dots, right)) ts us r)

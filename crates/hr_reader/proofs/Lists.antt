@@ -1,12 +1,12 @@
 -- What finders of lists find is what readings of lists read, where each element takes a lexeme or more.
-use Rattle.std.proofs.Common.{◌≡◌, ◌≢◌, ◌≤◌, ◌<◌, ℕ, zero, suc, List, [], ◌∷◌, length, Option, Some, None, refl, sym, ap, ◌∙◌, subst, inl, inr, arith}
+use Rattle.std.proofs.Common.{◌≡◌, ◌≤◌, ◌<◌, ℕ, zero, suc, List, [], ◌∷◌, length, Option, Some, None, refl, sym, subst, inl, inr, arith}
 use Rattle.hr_base.specs.declared.lexeme.Item.{Item}
 use Rattle.hr_rules.specs.declared.block.Placed.{Placed}
 use Rattle.hr_tree.specs.declared.lists.Listed.{Listed}
 use Rattle.hr_derives.specs.Readings.{Reading, never, nothing, ◌▷◌, given}
 use Rattle.hr_derives.specs.Readings as reading
-use Rattle.hr_reader.specs.Ways.{Among, Way, Finder, none, gives, ◌⊕◌, made_by, ◌▶◌, in_turn_by, in_turn, last_listed, listed_then, separated_by, some_separated, separated}
-use Rattle.hr_reader.proofs.Ways.{among_left, among_right, among_either, Sound, Matches, is_sound, gives_sound, either_sound, made_sound, made_found, behind_sound, behind_found}
+use Rattle.hr_reader.specs.Ways.{Among, Way, Finder, made_by, ◌▶◌, in_turn_by, in_turn, last_listed, listed_then, separated_by, separated}
+use Rattle.hr_reader.proofs.Ways.{among_left, among_right, Sound, Matches, is_sound, gives_sound, either_sound, made_sound, made_found, behind_sound, behind_found}
 
 -- each takes a lexeme or more
 abbrev pub Shrinks : {T : Type 0} → (T → Reading) → Type 0
@@ -105,9 +105,11 @@ separated_matches {T} {Q} {R} {s} {f} q m few less = record { sound = found; com
     some : (xs : List (Listed T)) (ts us : List Placed) → SomeSeparated Q R xs ts us → reading.separated Q R xs ts us
     some [] ts us r = elim r [ ]
     some (x ∷ xs) ts us r = r
+
     found : (xs : List (Listed T)) (ts us : List Placed) → Among {T = Way (List (Listed T))} (xs, us) (separated s f ts) → reading.separated Q R xs ts us
     found xs ts us (inl e) = subst (λ (w : Way (List (Listed T))). reading.separated Q R w.0 ts w.1) (sym e) refl
     found xs ts us (inr h) = some xs ts us ((separated_sound {Q = Q} {R = R} (is_sound q) (is_sound m) (length ts)).sound xs ts us h)
+
     read : (xs : List (Listed T)) (ts us : List Placed) → reading.separated Q R xs ts us → Among {T = Way (List (Listed T))} (xs, us) (separated s f ts)
     read [] ts us r = inl (λ j. ([], r j))
     read (x ∷ xs) ts us r = inr (separated_complete {Q = Q} {R = R} q m few less (length ts) (x ∷ xs) ts us (all_fit (length ts)) r)

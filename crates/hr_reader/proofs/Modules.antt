@@ -1,42 +1,37 @@
 -- What is found on each level is what is read there, and so for modules.
-use Rattle.std.proofs.Common.{◌≡◌, ◌≤◌, ◌<◌, ℕ, zero, suc, Bool, true, false, List, [], ◌∷◌, ◌++◌, length, drop, Option, Some, None, refl, sym, ap, ◌∙◌, subst, inl, inr, arith}
+use Rattle.std.proofs.Common.{◌≡◌, ◌≤◌, ◌<◌, ℕ, zero, suc, Bool, List, [], ◌∷◌, ◌++◌, length, Option, refl, sym, ap, ◌∙◌, subst, inl, inr, arith}
 use Rattle.hr_base.specs.declared.lexeme.Ending.{Ending}
 use Rattle.hr_base.specs.declared.lexeme.Item.{Item}
 use Rattle.hr_base.specs.declared.lexeme.Items.{Items}
 use Rattle.hr_rules.specs.declared.role.Role.{Role}
 use Rattle.hr_rules.specs.declared.block.BlockKind.{BlockKind}
 use Rattle.hr_rules.specs.declared.block.Placed.{Placed}
-use Rattle.hr_rules.specs.Blocks.{mark, placed_of}
+use Rattle.hr_rules.specs.Blocks.{placed_of}
 use Rattle.hr_tree.specs.declared.lists.Block.{Block}
 use Rattle.hr_tree.specs.declared.expressions.Decl.{Decl}
-use Rattle.hr_tree.specs.declared.expressions.Exp.{Exp}
 use Rattle.hr_tree.specs.declared.expressions.Alt.{Alt}
 use Rattle.hr_tree.specs.declared.modules.Header.{Header}
 use Rattle.hr_tree.specs.declared.modules.Module.{Module}
 use Rattle.hr_tree.specs.Lists.{block_items}
 use Rattle.hr_tree.specs.Yields.{decl_items, alt_items}
 use Rattle.hr_grammar.specs.Firsts.{Begins, opens_part, kind_at}
-use Rattle.hr_grammar.specs.Nodes.{TyPlace, PatPlace, ExpPlace, DeclPlace}
+use Rattle.hr_grammar.specs.Nodes.{DeclPlace}
 use Rattle.hr_grammar.specs.Yields.{Yields, nesting_limit}
 use Rattle.hr_grammar.proofs.PartFirsts.{declarations_begin_lem, alternatives_begin_lem}
 use Rattle.hr_derives.specs.Readings.{Reading, ◌▷◌, given}
 use Rattle.hr_derives.specs.Readings as reading
-use Rattle.hr_derives.specs.Derivations.{Derivations, no_derivations}
-use Rattle.hr_derives.specs.Blocks.{Parts}
 use Rattle.hr_derives.specs.Imports.{header_reading}
-use Rattle.hr_derives.specs.Modules.{comes_behind, decl_parts, alt_parts, declarations_over, alternatives_over, derivations, module_reading, Derives}
-use Rattle.hr_derives.specs.Laws.{items_left, AreLeft, Gives}
+use Rattle.hr_derives.specs.Modules.{comes_behind, decl_parts, alt_parts, declarations_over, alternatives_over, derivations, module_reading}
+use Rattle.hr_derives.specs.Laws.{items_left, Gives}
 use Rattle.hr_derives.proofs.Modules.{levels_give_lem}
 use Rattle.hr_derives.proofs.GrammaticalModules.{levels_are_lem, modules_are_lem}
 use Rattle.hr_derives.proofs.Shrinks.{readings_shrink_lem}
-use Rattle.hr_reader.specs.Ways.{Among, Way, Finder, any_of, none, on, made_by, ◌▶◌, maybe}
-use Rattle.hr_reader.specs.Finders.{Finders, no_finders}
-use Rattle.hr_reader.specs.Blocks.{PartFinder}
+use Rattle.hr_reader.specs.Ways.{Among, Way, Finder, made_by, ◌▶◌, maybe}
 use Rattle.hr_reader.specs.Imports.{headers}
 use Rattle.hr_reader.specs.Modules.{decl_of_place, decl_parts_found, alt_parts_found, declarations_found, alternatives_found, finders, module_of, module_finder, complete, trees_of}
 use Rattle.hr_reader.specs.Laws.{FoundAreDerived, DerivedAreFound}
-use Rattle.hr_reader.proofs.Ways.{Sound, Matches, is_sound, none_matches, made_sound, made_found, on_sound, found_on, any_sound, chosen, among_flat, flat_among, then_matches, maybe_matches}
-use Rattle.hr_reader.proofs.Lists.{Shrinks, all_fit}
+use Rattle.hr_reader.proofs.Ways.{Sound, Matches, none_matches, made_sound, made_found, on_sound, found_on, any_sound, chosen, among_flat, flat_among, then_matches, maybe_matches}
+use Rattle.hr_reader.proofs.Lists.{all_fit}
 use Rattle.hr_reader.proofs.Finders.{AllMatch, AllShrink, Level}
 use Rattle.hr_reader.proofs.Types.{ty_matches}
 use Rattle.hr_reader.proofs.Patterns.{pat_matches}
@@ -150,7 +145,6 @@ levels_shrink levels = record {
   declarations = λ m place block ts us r. given_stays (block_items decl_items block) ((derivations levels).declarations m place block) ((levels_give_lem levels).declarations m place block) ts us r;
   alternatives = λ m block ts us r. given_stays (block_items alt_items block) ((derivations levels).alternatives m block) ((levels_give_lem levels).alternatives m block) ts us r;
 }
-
 
 abbrev level_of : (levels : ℕ) → AllMatch (derivations levels) (finders levels) → Level
 level_of levels each = record { read = derivations levels; found = finders levels; each = each; less = levels_shrink levels }

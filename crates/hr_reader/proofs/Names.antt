@@ -1,5 +1,5 @@
 -- The names and operators that are found are those that are read.
-use Rattle.std.proofs.Common.{◌≡◌, ◌⊎◌, ◌≤◌, ◌<◌, ℕ, zero, suc, Bool, List, [], ◌∷◌, ◌++◌, length, refl, sym, ap, ◌∙◌, subst, inl, inr, arith}
+use Rattle.std.proofs.Common.{◌⊎◌, ◌≤◌, ◌<◌, ℕ, suc, Bool, List, [], ◌∷◌, ◌++◌, length, refl, sym, subst, inl, inr, arith}
 use Rattle.std.specs.List.{AllByRecursion}
 use lib.Chars.{codes}
 use Rattle.hr_base.specs.declared.lexeme.Class.{Class}
@@ -9,14 +9,14 @@ use Rattle.hr_tree.specs.declared.names.Variable.{Variable}
 use Rattle.hr_tree.specs.declared.names.Constructor.{Constructor}
 use Rattle.hr_tree.specs.declared.names.Operator.{Operator}
 use Rattle.hr_tree.specs.Names.{variable_items, constructor_items, operator_items}
-use Rattle.hr_grammar.specs.Words.{IsOf, IsSpecial, IsLeftParen, IsRightParen, IsLeftSquare, IsRightSquare, IsComma, IsArrow}
+use Rattle.hr_grammar.specs.Words.{IsSpecial, IsLeftParen, IsRightParen, IsComma}
 use Rattle.hr_grammar.specs.Spelled.{IsVariable, IsNamedVariable, IsConstructor, IsTypeConstructor, IsOwnConstructor, IsOwnVariableOperator, IsOwnConstructorOperator, IsOwnOperator, IsConstructorOperator, IsVariableOperator, IsOperator, AreCommas}
 use Rattle.hr_derives.specs.Readings.{Reading, ◌▷◌, given, takes, take_all, spelled}
 use Rattle.hr_derives.specs.Readings as reading
 use Rattle.hr_reader.specs.Ways.{Among, Way, Finder, ◌⊕◌, passing, made_by, ◌▶◌, one, in_turn}
-use Rattle.hr_reader.specs.Tests.{is_of, is_reserved, is_special, is_either, is_constructor_symbol, are_commas}
-use Rattle.hr_reader.specs.Names.{between, variable_by, variables, named_variables, constructor_by, own_constructors, built_in, constructors, type_constructors, operator_by, own_variable_operators, own_constructor_operators, own_operators, constructor_operators, variable_operators, operators}
-use Rattle.hr_reader.proofs.Ways.{among_left, among_right, among_either, Sound, Matches, Tests, is_sound, either_sound, made_sound, made_found, one_matches, then_matches, passing_matches, same_matches}
+use Rattle.hr_reader.specs.Tests.{is_of, is_special, are_commas}
+use Rattle.hr_reader.specs.Names.{between, variables, named_variables, own_constructors, constructors, type_constructors, own_variable_operators, own_constructor_operators, own_operators, constructor_operators, variable_operators, operators}
+use Rattle.hr_reader.proofs.Ways.{among_left, among_right, among_either, Matches, Tests, is_sound, either_sound, made_sound, made_found, one_matches, then_matches, passing_matches, same_matches}
 use Rattle.hr_reader.proofs.Tests.{tests_of, tests_reserved, tests_special, tests_two, tests_constructor_symbol, tests_from_to}
 use Rattle.hr_reader.proofs.Lists.{Shrinks, in_turn_matches}
 
@@ -61,7 +61,7 @@ commas_back n (comma ∷ commas) right ts us a t = let k = commas_back n commas 
 
 commas_match : (n : ℕ)
     → Matches (λ (x : Item × (List Item × Item)). given (IsLeftParen x.0 × (AreCommas x.1.0 × IsRightParen x.1.1)) (take_all n (x.0 ∷ (x.1.0 ++ (x.1.1 ∷ [])))))
-      (one n (is_special (codes "(")) ▶ passing are_commas (in_turn (one n (is_special (codes ",")))) ▶ one n (is_special (codes ")")))
+    (one n (is_special (codes "(")) ▶ passing are_commas (in_turn (one n (is_special (codes ",")))) ▶ one n (is_special (codes ")")))
 commas_match n =
     same_matches
     (λ x ts us r. let k = commas_to n x.1.0 x.1.1 r.0 r.2.0 us r.2.1.1 r.2.2.1 in ((r.1.0, ((k.0, r.2.1.0), r.2.2.0)), (r.0, r.1.1, k.1)))
@@ -135,11 +135,14 @@ spelled_either {T} n {P} {Q} items_of {f} {g} m k = record { sound = found; comp
     by : (x : T) (ts us : List Placed) → Among {T = Way T} (x, us) (f ts) ⊎ Among {T = Way T} (x, us) (g ts) → spelled n (λ x. P x ⊎ Q x) items_of x ts us
     by x ts us (inl h) = let r = m.sound x ts us h in (inl r.0, r.1)
     by x ts us (inr h) = let r = k.sound x ts us h in (inr r.0, r.1)
+
     found : (x : T) (ts us : List Placed) → Among {T = Way T} (x, us) ((f ⊕ g) ts) → spelled n (λ x. P x ⊎ Q x) items_of x ts us
     found x ts us h = by x ts us (among_either (x, us) (f ts) (g ts) h)
+
     one_of : (x : T) (ts us : List Placed) → P x ⊎ Q x → take_all n (items_of x) ts us → Among {T = Way T} (x, us) ((f ⊕ g) ts)
     one_of x ts us (inl p) t = among_left (x, us) (f ts) (g ts) (m.complete x ts us (p, t))
     one_of x ts us (inr q) t = among_right (x, us) (f ts) (g ts) (k.complete x ts us (q, t))
+
     read : (x : T) (ts us : List Placed) → spelled n (λ x. P x ⊎ Q x) items_of x ts us → Among {T = Way T} (x, us) ((f ⊕ g) ts)
     read x ts us r = one_of x ts us r.0 r.1
 
@@ -194,8 +197,10 @@ constructor_matches {R} {f} {g} {h} {k} {l} m n o p q = record {
   where
     named : Finder Constructor
     named = made_by Constructor.Name f ⊕ made_by symbol_of g
+
     built : Finder Constructor
     built = made_by unit_of h ⊕ (made_by empty_of k ⊕ made_by tuple_of l)
+
     read : (x : Constructor) (ts us : List Placed) → R x ts us → Among {T = Way Constructor} (x, us) ((named ⊕ built) ts)
     read (Constructor.Name item) ts us r =
         among_left _ (named ts) (built ts) (among_left _ (made_by Constructor.Name f ts) (made_by symbol_of g ts) (made_found Constructor.Name f item ts us (m.complete item ts us r)))

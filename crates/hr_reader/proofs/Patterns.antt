@@ -1,5 +1,5 @@
 -- The patterns that are found are those that are read.
-use Rattle.std.proofs.Common.{◌≡◌, ◌≢◌, ◌≤◌, ◌<◌, ℕ, zero, suc, true, List, [], ◌∷◌, length, Option, Some, None, refl, sym, ap, ◌∙◌, subst}
+use Rattle.std.proofs.Common.{◌≡◌, ◌≤◌, ◌<◌, ℕ, zero, suc, true, List, [], ◌∷◌, length, Option, Some, None, refl, sym, subst}
 use lib.Chars.{codes}
 use Rattle.hr_base.specs.declared.lexeme.Class.{Class}
 use Rattle.hr_base.specs.declared.lexeme.Item.{Item}
@@ -20,12 +20,12 @@ use Rattle.hr_grammar.specs.Words.{IsComma}
 use Rattle.hr_derives.specs.Readings.{Reading, ◌▷◌, spelled}
 use Rattle.hr_derives.specs.Readings as reading
 use Rattle.hr_derives.specs.Patterns.{pat_operands, pat_reading, pat_over}
-use Rattle.hr_reader.specs.Ways.{Among, Way, Finder, ◌⊕◌, ◌▶◌, made_by}
+use Rattle.hr_reader.specs.Ways.{Among, Way, ◌▶◌, made_by}
 use Rattle.hr_reader.specs.Names.{constructor_operators}
 use Rattle.hr_reader.specs.Patterns.{last_operand, operand_then, operands_by, pat_operands_found, pat_ways, pat_layers, pat_found}
 use Rattle.hr_reader.proofs.Ways.{among_left, among_right, Sound, Matches, Production, is_sound, either_sound, made_sound, made_found, behind_sound, behind_found, any_sound, chosen, on_sound, produced, produced_on, sound_production, made_matches, one_matches, then_matches, passing_matches, so_matches, so_given, same_matches}
 use Rattle.hr_reader.proofs.Tests.{tests_of, tests_word, tests_reserved, tests_special, tests_literal, tests_minus, tests_one, tests_has_two, tests_parts, tests_at}
-use Rattle.hr_reader.proofs.Lists.{in_turn_matches, separated_matches, shorter, none_left, all_fit, twice_shorter}
+use Rattle.hr_reader.proofs.Lists.{in_turn_matches, separated_matches, none_left, all_fit, twice_shorter}
 use Rattle.hr_reader.proofs.Names.{one_shrinks, operator_shrinks, variables_match, constructors_match, constructor_operators_match}
 use Rattle.hr_reader.proofs.Finders.{Level}
 
@@ -129,18 +129,22 @@ abbrev lazy : (b : Level) (n : ℕ) (place : PatPlace) → Production (pat_readi
 lazy b n place = (_, then_matches (one_matches n (tests_reserved (codes "~"))) (b.each.pat n PatPlace.Atomic))
 
 abbrev tuple : (b : Level) (n : ℕ) (place : PatPlace) → Production (pat_reading b.read n place) tuple_of
-tuple b n place =
-    (_, passing_matches (tests_at (λ (p : Item × (List (Listed Pat) × Item)). p.1.0) tests_parts)
-    (then_matches (one_matches n (tests_special (codes "(")))
-    (then_matches (separated_matches (one_matches n (tests_special (codes ","))) (b.each.pat n PatPlace.Whole) (one_shrinks n IsComma) (b.less.pat n PatPlace.Whole))
-    (one_matches n (tests_special (codes ")"))))))
+tuple b n place = (
+  _,
+  passing_matches (tests_at (λ (p : Item × (List (Listed Pat) × Item)). p.1.0) tests_parts)
+      (then_matches (one_matches n (tests_special (codes "(")))
+      (then_matches (separated_matches (one_matches n (tests_special (codes ","))) (b.each.pat n PatPlace.Whole) (one_shrinks n IsComma) (b.less.pat n PatPlace.Whole))
+      (one_matches n (tests_special (codes ")"))))),
+)
 
 abbrev list : (b : Level) (n : ℕ) (place : PatPlace) → Production (pat_reading b.read n place) list_of
-list b n place =
-    (_, passing_matches (tests_at (λ (p : Item × (List (Listed Pat) × Item)). p.1.0) tests_one)
-    (then_matches (one_matches n (tests_special (codes "[")))
-    (then_matches (separated_matches (one_matches n (tests_special (codes ","))) (b.each.pat n PatPlace.Whole) (one_shrinks n IsComma) (b.less.pat n PatPlace.Whole))
-    (one_matches n (tests_special (codes "]"))))))
+list b n place = (
+  _,
+  passing_matches (tests_at (λ (p : Item × (List (Listed Pat) × Item)). p.1.0) tests_one)
+      (then_matches (one_matches n (tests_special (codes "[")))
+      (then_matches (separated_matches (one_matches n (tests_special (codes ","))) (b.each.pat n PatPlace.Whole) (one_shrinks n IsComma) (b.less.pat n PatPlace.Whole))
+      (one_matches n (tests_special (codes "]"))))),
+)
 
 abbrev group : (b : Level) (n : ℕ) (place : PatPlace) → Production (pat_reading b.read n place) group_of
 group b n place = (_, then_matches (one_matches n (tests_special (codes "("))) (then_matches (b.each.pat n PatPlace.Whole) (one_matches n (tests_special (codes ")")))))
@@ -149,28 +153,51 @@ abbrev negative : (b : Level) (n : ℕ) (place : PatPlace) → takes_operand pla
 negative b n place e = (_, so_matches e (then_matches (one_matches n tests_minus) (one_matches n (tests_of Class.Integer))))
 
 abbrev apply : (b : Level) (n : ℕ) (place : PatPlace) → takes_operand place ≡ true → Production (pat_reading b.read n place) apply_of
-apply b n place e =
-    (_, so_given e (passing_matches (tests_at (λ (p : Constructor × List Pat). p.1) tests_one)
-    (then_matches (constructors_match n) (in_turn_matches (b.each.pat n PatPlace.Atomic) (b.less.pat n PatPlace.Atomic)))))
+apply b n place e = (
+  _,
+  so_given e (passing_matches (tests_at (λ (p : Constructor × List Pat). p.1) tests_one)
+      (then_matches (constructors_match n) (in_turn_matches (b.each.pat n PatPlace.Atomic) (b.less.pat n PatPlace.Atomic)))),
+)
 
 abbrev infix_of : (b : Level) (n : ℕ) (place : PatPlace) → takes_infix place ≡ true → Production (pat_reading b.read n place) Pat-F.Infix
 infix_of b n place e = (_, so_given e (passing_matches tests_has_two (operands_match b n)))
 
 layers_sound : (b : Level) (n : ℕ) (place : PatPlace) → Sound (pat_reading b.read n place) (pat_layers b.found n place)
 layers_sound b n place =
-    any_sound (pat_ways b.found n place)
-    (sound_production Pat-F.Variable (variable b n place),
-    (sound_production Pat-F.Wildcard (wildcard b n place),
-    (sound_production Pat-F.Literal (literal b n place),
-    (sound_production Pat-F.Constructor (constructor b n place),
-    (sound_production as_of (as_pattern b n place),
-    (sound_production lazy_of (lazy b n place),
-    (sound_production tuple_of (tuple b n place),
-    (sound_production list_of (list b n place),
-    (sound_production group_of (group b n place),
-    (on_sound (takes_operand place) (λ e. sound_production negative_of (negative b n place e)),
-    (on_sound (takes_operand place) (λ e. sound_production apply_of (apply b n place e)),
-    (on_sound (takes_infix place) (λ e. sound_production Pat-F.Infix (infix_of b n place e)), tt))))))))))))
+    any_sound (pat_ways b.found n place) (
+      sound_production Pat-F.Variable (variable b n place),
+      (
+        sound_production Pat-F.Wildcard (wildcard b n place),
+        (
+          sound_production Pat-F.Literal (literal b n place),
+          (
+            sound_production Pat-F.Constructor (constructor b n place),
+            (
+              sound_production as_of (as_pattern b n place),
+              (
+                sound_production lazy_of (lazy b n place),
+                (
+                  sound_production tuple_of (tuple b n place),
+                  (
+                    sound_production list_of (list b n place),
+                    (
+                      sound_production group_of (group b n place),
+                      (
+                        on_sound (takes_operand place) (λ e. sound_production negative_of (negative b n place e)),
+                        (
+                          on_sound (takes_operand place) (λ e. sound_production apply_of (apply b n place e)),
+                          (on_sound (takes_infix place) (λ e. sound_production Pat-F.Infix (infix_of b n place e)), tt),
+                        ),
+                      ),
+                    ),
+                  ),
+                ),
+              ),
+            ),
+          ),
+        ),
+      ),
+    )
 
 layers_complete : (b : Level) (n : ℕ) (place : PatPlace) (layer : Pat-F Pat) (ts us : List Placed) → pat_reading b.read n place layer ts us
     → Among {T = Way (Pat-F Pat)} (layer, us) (pat_layers b.found n place ts)

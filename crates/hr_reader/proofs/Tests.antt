@@ -1,6 +1,6 @@
 -- The tests hold exactly where the grammar's predicates do.
 use Rattle.std.proofs.Common.{◌≡◌, ◌≢◌, ◌⊎◌, ◌≤◌, ◌<◌, ℕ, zero, suc, Bool, true, false, not, ◌&&◌, ◌||◌, ◌==◌, nat_lt, List, [], ◌∷◌, length, refl, sym, ap, ap₂, ◌∙◌, subst, inl, inr, arith}
-use Rattle.std.proofs.lemmas.Bool.{ltb-true, ltb-false, lt-ltb, eqb-true, eq-eqb}
+use Rattle.std.proofs.lemmas.Bool.{ltb-true, ltb-false, eqb-true, eq-eqb}
 use lib.Chars.{codes}
 use Rattle.hr_base.specs.declared.lexeme.Class.{Class}
 use Rattle.hr_base.specs.declared.lexeme.Item.{Item}
@@ -9,7 +9,7 @@ use Rattle.hr_rules.specs.Runs.{begins_word}
 use Rattle.hr_tree.specs.declared.lists.Operand.{Operand}
 use Rattle.hr_tree.specs.declared.names.Operator.{Operator}
 use Rattle.hr_tree.specs.declared.expressions.Exp.{Exp}
-use Rattle.hr_grammar.specs.Words.{IsOf, IsText, IsWord, IsReserved, IsSpecial, IsImportWord, IsMinus, IsInteger, IsLiteral}
+use Rattle.hr_grammar.specs.Words.{IsOf, IsText, IsWord, IsReserved, IsSpecial, IsImportWord, IsMinus, IsLiteral}
 use Rattle.hr_grammar.specs.Spelled.{IsColon, IsNoMinus, AreParts}
 use Rattle.hr_grammar.specs.Declarations.{IsDigit}
 use Rattle.hr_grammar.specs.Patterns.{HasTwo}
@@ -105,6 +105,7 @@ tests_either {T} {P} {Q} {p} {q} s t = record { passes = λ x e. some x (one_of 
     some : (x : T) → (p x ≡ true) ⊎ (q x ≡ true) → P x ⊎ Q x
     some x (inl e) = inl (s.passes x e)
     some x (inr e) = inr (t.passes x e)
+
     passed_by : (x : T) → P x ⊎ Q x → (p x || q x) ≡ true
     passed_by x (inl h) = or_first (p x) (q x) (s.passed x h)
     passed_by x (inr h) = or_second (p x) (q x) (t.passed x h)
@@ -160,6 +161,7 @@ tests_no_minus = record { passes = passes_by; passed = passed_by }
     passes_by : (operator : Operator) → is_no_minus operator ≡ true → IsNoMinus operator
     passes_by (Operator.Symbol symbol) e = λ is. not_true (is_minus symbol) e (tests_minus.passed symbol is)
     passes_by (Operator.Quoted left name right) e = tt
+
     passed_by : (operator : Operator) → IsNoMinus operator → is_no_minus operator ≡ true
     passed_by (Operator.Symbol symbol) never = true_not (is_minus symbol) (λ e. never (tests_minus.passes symbol e))
     passed_by (Operator.Quoted left name right) never = refl
@@ -170,6 +172,7 @@ tests_one {T} = record { passes = passes_by; passed = passed_by }
     passes_by : (xs : List T) → has_one xs ≡ true → xs ≢ []
     passes_by [] e = let h : ⊥ = cc in elim h [ ]
     passes_by (x ∷ xs) e = λ f. cc
+
     passed_by : (xs : List T) → xs ≢ [] → has_one xs ≡ true
     passed_by [] never = let h : ⊥ = never refl in elim h [ ]
     passed_by (x ∷ xs) never = refl
@@ -181,6 +184,7 @@ tests_has_two {T} = record { passes = passes_by; passed = passed_by }
     passes_by [] e = let h : ⊥ = cc in elim h [ ]
     passes_by (x ∷ []) e = let h : ⊥ = cc in elim h [ ]
     passes_by (x ∷ (y ∷ xs)) e = tt
+
     passed_by : (xs : List T) → HasTwo xs → has_two xs ≡ true
     passed_by [] h = elim h [ ]
     passed_by (x ∷ []) h = elim h [ ]
@@ -216,6 +220,7 @@ tests_sequence = record { passes = passes_by; passed = passed_by }
     passes_by [] e = let h : ⊥ = cc in elim h [ ]
     passes_by (x ∷ []) e = e
     passes_by (x ∷ (y ∷ xs)) e = tt
+
     passed_by : (xs : List (Operand Exp)) → IsSequence xs → is_sequence xs ≡ true
     passed_by [] h = elim h [ ]
     passed_by (x ∷ []) h = h

@@ -1,5 +1,5 @@
 -- The types that are found are those that are read.
-use Rattle.std.proofs.Common.{◌≡◌, ◌≢◌, ℕ, true, List, [], length, refl, sym, ap, ◌∙◌, subst}
+use Rattle.std.proofs.Common.{◌≡◌, ℕ, true, List, sym, subst}
 use lib.Chars.{codes}
 use Rattle.hr_base.specs.declared.lexeme.Class.{Class}
 use Rattle.hr_base.specs.declared.lexeme.Item.{Item}
@@ -12,7 +12,6 @@ use Rattle.hr_tree.specs.declared.types.Ty.TheViews.{roll-out-Ty, out-roll-Ty}
 use Rattle.hr_grammar.specs.Nodes.{TyPlace}
 use Rattle.hr_grammar.specs.Types.{takes_application, takes_function}
 use Rattle.hr_grammar.specs.Words.{IsComma}
-use Rattle.hr_derives.specs.Readings.{Reading}
 use Rattle.hr_derives.specs.Types.{ty_reading, ty_over}
 use Rattle.hr_reader.specs.Ways.{Among, Way}
 use Rattle.hr_reader.specs.Types.{ty_ways, ty_layers, ty_found}
@@ -44,11 +43,13 @@ abbrev constructor : (b : Level) (n : ℕ) (place : TyPlace) → Production (ty_
 constructor b n place = (_, type_constructors_match n)
 
 abbrev tuple : (b : Level) (n : ℕ) (place : TyPlace) → Production (ty_reading b.read n place) tuple_of
-tuple b n place =
-    (_, passing_matches (tests_at (λ (p : Item × (List (Listed Ty) × Item)). p.1.0) tests_parts)
-    (then_matches (one_matches n (tests_special (codes "(")))
-    (then_matches (separated_matches (one_matches n (tests_special (codes ","))) (b.each.ty n TyPlace.Whole) (one_shrinks n IsComma) (b.less.ty n TyPlace.Whole))
-    (one_matches n (tests_special (codes ")"))))))
+tuple b n place = (
+  _,
+  passing_matches (tests_at (λ (p : Item × (List (Listed Ty) × Item)). p.1.0) tests_parts)
+      (then_matches (one_matches n (tests_special (codes "(")))
+      (then_matches (separated_matches (one_matches n (tests_special (codes ","))) (b.each.ty n TyPlace.Whole) (one_shrinks n IsComma) (b.less.ty n TyPlace.Whole))
+      (one_matches n (tests_special (codes ")"))))),
+)
 
 abbrev list : (b : Level) (n : ℕ) (place : TyPlace) → Production (ty_reading b.read n place) list_of
 list b n place = (_, then_matches (one_matches n (tests_special (codes "["))) (then_matches (b.each.ty n TyPlace.Whole) (one_matches n (tests_special (codes "]")))))
@@ -57,9 +58,11 @@ abbrev group : (b : Level) (n : ℕ) (place : TyPlace) → Production (ty_readin
 group b n place = (_, then_matches (one_matches n (tests_special (codes "("))) (then_matches (b.each.ty n TyPlace.Whole) (one_matches n (tests_special (codes ")")))))
 
 abbrev apply : (b : Level) (n : ℕ) (place : TyPlace) → takes_application place ≡ true → Production (ty_reading b.read n place) apply_of
-apply b n place e =
-    (_, so_given e (passing_matches (tests_at (λ (p : Constructor × List Ty). p.1) tests_one)
-    (then_matches (type_constructors_match n) (in_turn_matches (b.each.ty n TyPlace.Atomic) (b.less.ty n TyPlace.Atomic)))))
+apply b n place e = (
+  _,
+  so_given e (passing_matches (tests_at (λ (p : Constructor × List Ty). p.1) tests_one)
+      (then_matches (type_constructors_match n) (in_turn_matches (b.each.ty n TyPlace.Atomic) (b.less.ty n TyPlace.Atomic)))),
+)
 
 abbrev function : (b : Level) (n : ℕ) (place : TyPlace) → takes_function place ≡ true → Production (ty_reading b.read n place) function_of
 function b n place e =
@@ -67,14 +70,25 @@ function b n place e =
 
 layers_sound : (b : Level) (n : ℕ) (place : TyPlace) → Sound (ty_reading b.read n place) (ty_layers b.found n place)
 layers_sound b n place =
-    any_sound (ty_ways b.found n place)
-    (sound_production Ty-F.Variable (variable b n place),
-    (sound_production Ty-F.Constructor (constructor b n place),
-    (sound_production tuple_of (tuple b n place),
-    (sound_production list_of (list b n place),
-    (sound_production group_of (group b n place),
-    (on_sound (takes_application place) (λ e. sound_production apply_of (apply b n place e)),
-    (on_sound (takes_function place) (λ e. sound_production function_of (function b n place e)), tt)))))))
+    any_sound (ty_ways b.found n place) (
+      sound_production Ty-F.Variable (variable b n place),
+      (
+        sound_production Ty-F.Constructor (constructor b n place),
+        (
+          sound_production tuple_of (tuple b n place),
+          (
+            sound_production list_of (list b n place),
+            (
+              sound_production group_of (group b n place),
+              (
+                on_sound (takes_application place) (λ e. sound_production apply_of (apply b n place e)),
+                (on_sound (takes_function place) (λ e. sound_production function_of (function b n place e)), tt),
+              ),
+            ),
+          ),
+        ),
+      ),
+    )
 
 layers_complete : (b : Level) (n : ℕ) (place : TyPlace) (layer : Ty-F Ty) (ts us : List Placed) → ty_reading b.read n place layer ts us
     → Among {T = Way (Ty-F Ty)} (layer, us) (ty_layers b.found n place ts)

@@ -1,14 +1,13 @@
 -- What finders find is what readings read, combinator by combinator.
-use Rattle.std.proofs.Common.{◌≡◌, ◌⊎◌, ◌≤◌, ◌<◌, ℕ, zero, suc, Bool, true, false, ◌&&◌, if◌then◌else◌, List, [], ◌∷◌, ◌++◌, map, length, Option, Some, None, refl, sym, ap, ◌∙◌, subst, inl, inr, arith}
+use Rattle.std.proofs.Common.{◌≡◌, ◌⊎◌, ℕ, zero, suc, Bool, true, false, ◌&&◌, if◌then◌else◌, List, [], ◌∷◌, ◌++◌, map, Option, Some, None, refl, sym, ap, subst, inl, inr}
 use Rattle.std.specs.List.{flat_map}
 use Rattle.hr_base.specs.declared.lexeme.Ending.{Ending}
 use Rattle.hr_base.specs.declared.lexeme.Item.{Item}
 use Rattle.hr_rules.specs.declared.block.Placed.{Placed}
 use Rattle.hr_rules.specs.Blocks.{goes_on}
-use Rattle.hr_tree.specs.declared.lists.Listed.{Listed}
 use Rattle.hr_derives.specs.Readings.{Reading, nothing, ◌▷◌, given}
 use Rattle.hr_derives.specs.Readings as reading
-use Rattle.hr_reader.specs.Ways.{Among, Way, Finder, any_of, none, gives, ◌⊕◌, on, passing, made_by, behind, ◌▶◌, one, maybe, in_turn_by, in_turn, inside, ends_as}
+use Rattle.hr_reader.specs.Ways.{Among, Way, Finder, any_of, none, gives, ◌⊕◌, on, passing, made_by, behind, ◌▶◌, one, maybe, inside, ends_as}
 
 -- lists of ways
 pub among_left : {T : Type 0} (x : T) (xs ys : List T) → Among x xs → Among x (xs ++ ys)
@@ -185,6 +184,7 @@ one_matches n {Is} {is} t = record { sound = found; complete = read }
         let k = if_among (item, us) (next.item, ts) (is next.item && goes_on n next) h in
         let b = both_are (is next.item) (goes_on n next) k.0 in
         (subst Is (sym (ap (λ (w : Way Item). w.0) k.1)) (t.passes next.item b.0), (b.1, sym (ap (λ (w : Way Item). w.0) k.1), ap (λ (w : Way Item). w.1) k.1))
+
     read : (item : Item) (ts us : List Placed) → reading.one n Is item ts us → Among {T = Way Item} (item, us) (one n is ts)
     read item [] us r = elim r.1 [ ]
     read item (next ∷ ts) us r =
@@ -197,8 +197,10 @@ maybe_matches {T} {R} {f} m = record { sound = found; complete = read }
     by x ts us (inl (inl e)) = subst (λ (w : Way (Option T)). reading.maybe R w.0 ts w.1) (sym e) refl
     by x ts us (inl (inr h)) = elim h [ ]
     by x ts us (inr h) = (made_sound {R = reading.maybe R} Some (is_sound m)).sound x ts us h
+
     found : (x : Option T) (ts us : List Placed) → Among {T = Way (Option T)} (x, us) (maybe f ts) → reading.maybe R x ts us
     found x ts us h = by x ts us (among_either (x, us) (gives None ts) (made_by Some f ts) h)
+
     read : (x : Option T) (ts us : List Placed) → reading.maybe R x ts us → Among {T = Way (Option T)} (x, us) (maybe f ts)
     read None ts us r = inl (λ j. (None, r j))
     read (Some x) ts us r = inr (made_found Some f x ts us (m.complete x ts us r))

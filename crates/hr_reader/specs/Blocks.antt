@@ -5,14 +5,13 @@ use Rattle.hr_base.specs.declared.lexeme.Ending.{Ending}
 use Rattle.hr_base.specs.declared.lexeme.Item.{Item}
 use Rattle.hr_rules.specs.declared.block.BlockKind.{BlockKind}
 use Rattle.hr_rules.specs.declared.block.Opened.{Opened}
-use Rattle.hr_rules.specs.declared.block.Placed.{Placed}
 use Rattle.hr_rules.specs.Blocks.{mark, left_of, opens, starts_part, ends_block}
 use Rattle.hr_tree.specs.declared.lists.Block.{Block}
 use Rattle.hr_tree.specs.declared.lists.Layout.{Layout}
 use Rattle.hr_tree.specs.declared.lists.Piece.{Piece}
 use Rattle.hr_grammar.specs.Nodes.{DeclPlace}
 use Rattle.hr_grammar.specs.Offside.{column_of}
-use Rattle.hr_reader.specs.Ways.{Finder, any_of, Way, none, gives, on, made_by, behind, ◌▶◌, one}
+use Rattle.hr_reader.specs.Ways.{Finder, any_of, gives, on, made_by, behind, ◌▶◌, one}
 use Rattle.hr_reader.specs.Tests.{is_special}
 
 -- a part in the block at a column, behind parts of a place: with its own place and its ending

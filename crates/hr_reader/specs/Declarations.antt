@@ -20,11 +20,10 @@ use Rattle.hr_tree.specs.declared.expressions.Decl.{Decl, roll-Decl}
 use Rattle.hr_tree.specs.declared.expressions.Decl.TheOpen.{Decl-F}
 use Rattle.hr_tree.specs.declared.expressions.Qualifier.{Qualifier}
 use Rattle.hr_tree.specs.declared.expressions.Alt.{Alt, roll-Alt}
-use Rattle.hr_tree.specs.declared.expressions.Decl.TheOpen.{Alt-F}
 use Rattle.hr_grammar.specs.Nodes.{TyPlace, PatPlace, ExpPlace, DeclPlace}
 use Rattle.hr_grammar.specs.Declarations.{fixity_words, takes_import, takes_top, takes_local}
 use Rattle.hr_grammar.specs.Spans.{part_ending}
-use Rattle.hr_reader.specs.Ways.{Finder, any_of, none, ◌⊕◌, on, passing, made_by, ◌▶◌, one, maybe, in_turn, separated, inside, ends_as, ending_in}
+use Rattle.hr_reader.specs.Ways.{Finder, any_of, none, ◌⊕◌, on, passing, made_by, ◌▶◌, one, maybe, in_turn, separated, inside, ends_as}
 use Rattle.hr_reader.specs.Tests.{is_of, is_word, is_reserved, is_special, is_digit, has_one}
 use Rattle.hr_reader.specs.Names.{variables, own_constructors, own_variable_operators, own_constructor_operators, own_operators}
 use Rattle.hr_reader.specs.Finders.{Finders}
@@ -137,15 +136,15 @@ abbrev pub decl_ways : Finders → ℕ → DeclPlace → List (Finder (Decl-F De
 decl_ways below n place =
     on (takes_import place) (made_by (λ import. (Decl-F.Import import, Ending.WhereBlock)) (imports n))
     ∷ on (takes_top place) (made_by (λ p. (Decl-F.Synonym p.0 p.1.0 p.1.1.0 p.1.1.1, Ending.WhereBlock))
-      (one n (is_word (codes "type")) ▶ type_heads n ▶ one n (is_reserved (codes "=")) ▶ below.ty n TyPlace.Whole))
+    (one n (is_word (codes "type")) ▶ type_heads n ▶ one n (is_reserved (codes "=")) ▶ below.ty n TyPlace.Whole))
     ∷ on (takes_top place) (made_by (λ p. (Decl-F.Data p.0 p.1.0 p.1.1.0 p.1.1.1, Ending.WhereBlock)) (passing (λ p. has_one p.1.1.1)
-      (one n (is_word (codes "data")) ▶ type_heads n ▶ one n (is_reserved (codes "=")) ▶ separated (one n (is_reserved (codes "|"))) (constructions below n))))
+    (one n (is_word (codes "data")) ▶ type_heads n ▶ one n (is_reserved (codes "=")) ▶ separated (one n (is_reserved (codes "|"))) (constructions below n))))
     ∷ on (takes_top place) (made_by (λ p. (Decl-F.Newtype p.0 p.1.0 p.1.1.0 p.1.1.1, Ending.WhereBlock))
-      (one n (is_word (codes "newtype")) ▶ type_heads n ▶ one n (is_reserved (codes "=")) ▶ new_constructions below n))
+    (one n (is_word (codes "newtype")) ▶ type_heads n ▶ one n (is_reserved (codes "=")) ▶ new_constructions below n))
     ∷ on (takes_local place) (made_by (λ p. (Decl-F.Signature p.0 p.1.0 p.1.1, Ending.Signature)) (passing (λ p. has_one p.0)
-      (separated (one n (is_special (codes ","))) (variables n) ▶ one n (is_reserved (codes "::")) ▶ below.ty n TyPlace.Whole)))
+    (separated (one n (is_special (codes ","))) (variables n) ▶ one n (is_reserved (codes "::")) ▶ below.ty n TyPlace.Whole)))
     ∷ on (takes_local place) (made_by (λ p. (Decl-F.Fixity p.0 p.1.0 p.1.1, Ending.Fixity)) (passing (λ p. is_one_of fixity_words p.0.lexeme.text && has_one p.1.1)
-      (one n (is_of Class.ReservedId) ▶ maybe (one n is_digit) ▶ separated (one n (is_special (codes ","))) (own_operators n))))
+    (one n (is_of Class.ReservedId) ▶ maybe (one n is_digit) ▶ separated (one n (is_special (codes ","))) (own_operators n))))
     ∷ on (takes_local place) (made_by (λ p. (Decl-F.Equation p.0 p.1.0.0 p.1.0.1, p.1.1)) (left_sides below n ▶ right_sides below n (is_reserved (codes "="))))
     ∷ on (takes_local place) (made_by (λ p. (Decl-F.Binding p.0 p.1.0.0 p.1.0.1, p.1.1)) (below.pat n PatPlace.Whole ▶ right_sides below n (is_reserved (codes "="))))
     ∷ []

@@ -21,7 +21,7 @@ abbrev pub member_ways : ℕ → List (Finder Members)
 member_ways n =
     made_by (λ p. Members.All p.0 p.1.0 p.1.1) (one n (is_special (codes "(")) ▶ one n (is_reserved (codes "..")) ▶ one n (is_special (codes ")")))
     ∷ made_by (λ p. Members.Named p.0 p.1.0 p.1.1)
-      (one n (is_special (codes "(")) ▶ separated (one n (is_special (codes ","))) (own_constructors n) ▶ one n (is_special (codes ")")))
+    (one n (is_special (codes "(")) ▶ separated (one n (is_special (codes ","))) (own_constructors n) ▶ one n (is_special (codes ")")))
     ∷ []
 
 abbrev pub members : ℕ → Finder Members

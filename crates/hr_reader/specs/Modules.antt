@@ -1,5 +1,5 @@
 -- The plain reader of the whole grammar: the levels, and modules.
-use Rattle.std.specs.Prelude.{ℕ, zero, suc, Bool, true, false, List, [], ◌∷◌, Option}
+use Rattle.std.specs.Prelude.{ℕ, zero, suc, List, [], ◌∷◌, Option}
 use Rattle.std.specs.List.{flat_map}
 use Rattle.hr_base.specs.declared.lexeme.Ending.{Ending}
 use Rattle.hr_base.specs.declared.lexeme.Items.{Items}

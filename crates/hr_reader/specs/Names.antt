@@ -1,5 +1,5 @@
 -- The ways to begin with a name or an operator.
-use Rattle.std.specs.Prelude.{ℕ, Bool, true, ◌&&◌, List, []}
+use Rattle.std.specs.Prelude.{ℕ, Bool, List}
 use lib.Chars.{codes}
 use Rattle.hr_base.specs.declared.lexeme.Class.{Class}
 use Rattle.hr_base.specs.declared.lexeme.Item.{Item}
@@ -40,7 +40,7 @@ built_in n =
     made_by (λ p. Constructor.Unit p.0 p.1) (one n (is_special (codes "(")) ▶ one n (is_special (codes ")")))
     ⊕ made_by (λ p. Constructor.EmptyList p.0 p.1) (one n (is_special (codes "[")) ▶ one n (is_special (codes "]")))
     ⊕ made_by (λ p. Constructor.Tuple p.0 p.1.0 p.1.1)
-      (one n (is_special (codes "(")) ▶ passing are_commas (in_turn (one n (is_special (codes ",")))) ▶ one n (is_special (codes ")")))
+    (one n (is_special (codes "(")) ▶ passing are_commas (in_turn (one n (is_special (codes ",")))) ▶ one n (is_special (codes ")")))
 
 abbrev pub constructors : ℕ → Finder Constructor
 constructors n = constructor_by n (is_either Class.ConId Class.QConId) is_constructor_symbol ⊕ built_in n

@@ -1,5 +1,5 @@
 -- The ways to begin with a pattern.
-use Rattle.std.specs.Prelude.{ℕ, zero, suc, List, [], ◌∷◌, length, Option, Some, None}
+use Rattle.std.specs.Prelude.{ℕ, zero, suc, List, [], ◌∷◌, length, Some, None}
 use lib.Chars.{codes}
 use Rattle.hr_tree.specs.declared.lists.Operand.{Operand}
 use Rattle.hr_tree.specs.declared.names.Operator.{Operator}
@@ -39,9 +39,9 @@ pat_ways below n place =
     ∷ made_by (λ p. Pat-F.As p.0 p.1.0 p.1.1) (variables n ▶ one n (is_reserved (codes "@")) ▶ below.pat n PatPlace.Atomic)
     ∷ made_by (λ p. Pat-F.Lazy p.0 p.1) (one n (is_reserved (codes "~")) ▶ below.pat n PatPlace.Atomic)
     ∷ made_by (λ p. Pat-F.Tuple p.0 p.1.0 p.1.1) (passing (λ p. are_parts p.1.0)
-      (one n (is_special (codes "(")) ▶ separated (one n (is_special (codes ","))) (below.pat n PatPlace.Whole) ▶ one n (is_special (codes ")"))))
+    (one n (is_special (codes "(")) ▶ separated (one n (is_special (codes ","))) (below.pat n PatPlace.Whole) ▶ one n (is_special (codes ")"))))
     ∷ made_by (λ p. Pat-F.List p.0 p.1.0 p.1.1) (passing (λ p. has_one p.1.0)
-      (one n (is_special (codes "[")) ▶ separated (one n (is_special (codes ","))) (below.pat n PatPlace.Whole) ▶ one n (is_special (codes "]"))))
+    (one n (is_special (codes "[")) ▶ separated (one n (is_special (codes ","))) (below.pat n PatPlace.Whole) ▶ one n (is_special (codes "]"))))
     ∷ made_by (λ p. Pat-F.Group p.0 p.1.0 p.1.1) (one n (is_special (codes "(")) ▶ below.pat n PatPlace.Whole ▶ one n (is_special (codes ")")))
     ∷ on (takes_operand place) (made_by (λ p. Pat-F.Negative p.0 p.1) (one n is_minus ▶ one n (is_of Class.Integer)))
     ∷ on (takes_operand place) (made_by (λ p. Pat-F.Apply p.0 p.1) (passing (λ p. has_one p.1) (constructors n ▶ in_turn (below.pat n PatPlace.Atomic))))
