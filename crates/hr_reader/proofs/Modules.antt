@@ -21,15 +21,16 @@ use Rattle.hr_grammar.proofs.PartFirsts.{declarations_begin_lem, alternatives_be
 use Rattle.hr_derives.specs.Readings.{Reading, ◌▷◌, given}
 use Rattle.hr_derives.specs.Readings as reading
 use Rattle.hr_derives.specs.Imports.{header_reading}
-use Rattle.hr_derives.specs.Modules.{comes_behind, decl_parts, alt_parts, declarations_over, alternatives_over, derivations, module_reading}
+use Rattle.hr_derives.specs.Modules.{Derives, comes_behind, decl_parts, alt_parts, declarations_over, alternatives_over, derivations, module_reading}
 use Rattle.hr_derives.specs.Laws.{items_left, Gives}
 use Rattle.hr_derives.proofs.Modules.{levels_give_lem}
-use Rattle.hr_derives.proofs.GrammaticalModules.{levels_are_lem, modules_are_lem}
+use Rattle.hr_derives.proofs.GrammaticalModules.{levels_are_lem}
+use Rattle.hr_derives.proofs.StandingModules.{modules_yield_lem}
 use Rattle.hr_derives.proofs.Shrinks.{readings_shrink_lem}
 use Rattle.hr_reader.specs.Ways.{Among, Way, Finder, made_by, ◌▶◌, maybe}
 use Rattle.hr_reader.specs.Imports.{headers}
 use Rattle.hr_reader.specs.Modules.{decl_of_place, decl_parts_found, alt_parts_found, declarations_found, alternatives_found, finders, module_of, module_finder, complete, trees_of}
-use Rattle.hr_reader.specs.Laws.{FoundAreDerived, DerivedAreFound}
+use Rattle.hr_reader.specs.Laws.{DerivedAreFound, FoundAreDerived, FoundAreRead}
 use Rattle.hr_reader.proofs.Ways.{Sound, Matches, none_matches, made_sound, made_found, on_sound, found_on, any_sound, chosen, among_flat, flat_among, then_matches, maybe_matches}
 use Rattle.hr_reader.proofs.Lists.{all_fit}
 use Rattle.hr_reader.proofs.Finders.{AllMatch, AllShrink, Level}
@@ -204,21 +205,36 @@ found_reading levels items tree h =
     subst (λ us. TailedReading levels items.tail tree (placed_of items.list) us) w.1
     (subst (λ x. TailedReading levels items.tail x (placed_of items.list) k.0.1) (sym w.0) ((modules_sound levels items.tail).sound k.0.0 (placed_of items.list) k.0.1 k.1))
 
-derived_found : DerivedAreFound
+derived_found : (levels : ℕ) (items : Items) (tree : Module) → Derives levels tree items.list → tree.tail ≡ items.tail → Among tree (trees_of levels items)
 derived_found levels items tree d e =
     flat_among complete (module_finder levels items.tail (placed_of items.list)) (tree, []) tree (modules_complete levels items.tail tree (placed_of items.list) [] e d) (inl refl)
-
-found_yields : (items : Items) (tree : Module) → Among tree (trees_of nesting_limit items) → Yields tree items
-found_yields items tree h =
-    let r = found_reading nesting_limit items tree h in
-    subst (λ tail. Yields tree (record { list = items.list; tail = tail })) r.0 (modules_are_lem.yields tree items.list r.1)
 
 pub found_are_derived_lem : FoundAreDerived
 found_are_derived_lem = record {
   derived = λ levels items tree h. (found_reading levels items tree h).1;
   tail = λ levels items tree h. (found_reading levels items tree h).0;
-  yields = found_yields;
 }
 
+pub found_are_read_lem : FoundAreRead
+found_are_read_lem items tree h =
+    let r = found_reading nesting_limit items tree h in
+    let m = modules_yield_lem tree items.list r.1 in
+    (subst (λ tail. Yields tree (record { list = items.list; tail = tail })) r.0 m.0, m.1)
+
+pub only_one : {T : Type 0} (x : T) (xs : List T) → length xs ≡ 1 → Among x xs → xs ≡ x ∷ []
+only_one x [] e h = elim h [ ]
+only_one x (y ∷ []) e (inl f) = ap (λ z. z ∷ []) (sym f)
+only_one x (y ∷ []) e (inr h) = elim h [ ]
+only_one x (y ∷ (z ∷ ys)) e h = absurd (omega arith)
+
+the_only : {T : Type 0} (x y : T) → Among x (y ∷ []) → x ≡ y
+the_only x y (inl e) = e
+the_only x y (inr h) = elim h [ ]
+
 pub derived_are_found_lem : DerivedAreFound
-derived_are_found_lem = derived_found
+derived_are_found_lem = record {
+  found = derived_found;
+  none = λ levels items e tree d f. subst (λ trees. Among tree trees) e (derived_found levels items tree d f);
+  alone = λ levels items e tree other d o f g.
+      sym (the_only other tree (subst (λ trees. Among other trees) (only_one tree (trees_of levels items) e (derived_found levels items tree d f)) (derived_found levels items other o g)));
+}

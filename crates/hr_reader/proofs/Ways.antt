@@ -156,7 +156,7 @@ behind_sound {S} {T} {R} {Q} {f} {g} m n = record {
   sound = λ x ts us h.
       let k = among_flat (λ (way : Way S). map (λ (next : Way T). ((way.0, next.0), next.1)) (g way.0 way.1)) (f ts) (x, us) h in
       let j = among_map (λ (next : Way T). ((k.0.0, next.0), next.1)) (g k.0.0 k.0.1) (x, us) k.2 in
-      subst (λ (w : Way (S × T)). (R w.0.0 ▷ Q w.0.0 w.0.1) ts w.1) (sym j.1) (k.0.1, m.sound k.0.0 ts k.0.1 k.1, (n k.0.0).sound j.0.0 k.0.1 j.0.1 j.2);
+      subst (λ (w : Way (S × T)). (R w.0.0 ▷ Q w.0.0 w.0.1) ts w.1) (sym {b = ((k.0.0, j.0.0), j.0.1)} j.1) (k.0.1, m.sound k.0.0 ts k.0.1 k.1, (n k.0.0).sound j.0.0 k.0.1 j.0.1 j.2);
 }
 
 pub behind_found : {S T : Type 0} (f : Finder S) (g : S → Finder T) (x : S) (y : T) (ts vs us : List Placed)

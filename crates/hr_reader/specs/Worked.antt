@@ -56,6 +56,36 @@ braced_items =
     item Class.Special [] (codes "{") ∷ joint (codes ";") ∷ name (codes "a") ∷ mark (codes "=") ∷ name (codes "b") ∷ joint (codes ";") ∷ joint (codes ";") ∷ name (codes "c") ∷ symbol (codes "+")
     ∷ name (codes "d") ∷ mark (codes "=") ∷ symbol (codes "-") ∷ number (codes "1") ∷ joint (codes ";") ∷ bracket (codes "}") ∷ []
 
+-- `a = (case x of y -> 1, 2)`
+abbrev pub case_in_tuple_items : List Item
+case_in_tuple_items =
+    item Class.VarId [] (codes "a") ∷ mark (codes "=") ∷ bracket (codes "(") ∷ item Class.ReservedId [] (codes "case") ∷ name (codes "x") ∷ word (codes "of") ∷ name (codes "y") ∷ mark (codes "->")
+    ∷ number (codes "1") ∷ joint (codes ",") ∷ number (codes "2") ∷ joint (codes ")") ∷ []
+
+-- `a = [case x of y -> 1 : [] | y <- z]`
+abbrev pub case_in_comprehension_items : List Item
+case_in_comprehension_items =
+    item Class.VarId [] (codes "a") ∷ mark (codes "=") ∷ bracket (codes "[") ∷ item Class.ReservedId [] (codes "case") ∷ name (codes "x") ∷ word (codes "of") ∷ name (codes "y") ∷ mark (codes "->")
+    ∷ number (codes "1") ∷ mark (codes ":") ∷ bracket (codes "[") ∷ joint (codes "]") ∷ mark (codes "|") ∷ name (codes "y") ∷ mark (codes "<-") ∷ name (codes "z") ∷ joint (codes "]") ∷ []
+
+-- `a = [case x of y -> 1 ..]`
+abbrev pub case_in_sequence_items : List Item
+case_in_sequence_items =
+    item Class.VarId [] (codes "a") ∷ mark (codes "=") ∷ bracket (codes "[") ∷ item Class.ReservedId [] (codes "case") ∷ name (codes "x") ∷ word (codes "of") ∷ name (codes "y") ∷ mark (codes "->")
+    ∷ number (codes "1") ∷ mark (codes "..") ∷ joint (codes "]") ∷ []
+
+-- `a = case case x of y -> y of z -> z`
+abbrev pub case_in_case_items : List Item
+case_in_case_items =
+    item Class.VarId [] (codes "a") ∷ mark (codes "=") ∷ word (codes "case") ∷ word (codes "case") ∷ name (codes "x") ∷ word (codes "of") ∷ name (codes "y") ∷ mark (codes "->") ∷ name (codes "y")
+    ∷ word (codes "of") ∷ name (codes "z") ∷ mark (codes "->") ∷ name (codes "z") ∷ []
+
+-- `a = let b = c where c = 1 in b`
+abbrev pub where_in_let_items : List Item
+where_in_let_items =
+    item Class.VarId [] (codes "a") ∷ mark (codes "=") ∷ word (codes "let") ∷ name (codes "b") ∷ mark (codes "=") ∷ name (codes "c") ∷ word (codes "where") ∷ name (codes "c") ∷ mark (codes "=")
+    ∷ number (codes "1") ∷ word (codes "in") ∷ name (codes "b") ∷ []
+
 -- `f = )`
 abbrev pub closing_items : List Item
 closing_items = item Class.VarId [] (codes "f") ∷ mark (codes "=") ∷ bracket (codes ")") ∷ []
@@ -89,6 +119,11 @@ pub record WorkedTextsAreFound : Type 0 where
   pub section_of_lambda : HasOneTree (defines_a section_of_lambda) section_of_lambda_items
   pub case_in_if : HasOneTree (defines_a case_in_if) case_in_if_items
   pub sum_behind_case : HasOneTree (defines_a sum_behind_case) sum_behind_case_items
+  pub case_in_tuple : HasSomeTree case_in_tuple_items
+  pub case_in_comprehension : HasSomeTree case_in_comprehension_items
+  pub case_in_sequence : HasSomeTree case_in_sequence_items
+  pub case_in_case : HasSomeTree case_in_case_items
+  pub where_in_let : HasSomeTree where_in_let_items
   pub whole_module : HasSomeTree module_items
   pub braced : HasSomeTree braced_items
   pub closing : HasNoTree closing_items

@@ -1,13 +1,19 @@
 //! Laws of the plain reader.
-ghost use Rattle.hr_reader.specs.Laws.{DerivedAreFound, FoundAreDerived};
+ghost use Rattle.hr_reader.specs.Laws.{DerivedAreFound, FoundAreDerived, FoundAreRead};
 ghost use Rattle.hr_reader.specs.Worked.{WorkedTextsAreFound};
 
-/// What the reader finds is a tree of the items by the relation, and yields them.
+/// What the reader finds is a tree of the items by the relation.
 pub fn found_are_derived()
     ensures { FoundAreDerived }
 {}
 
-/// Each tree of the items by the relation is found.
+/// What the reader finds yields the items, and its blocks stand as the layout rule says.
+pub fn found_are_read()
+    ensures { FoundAreRead }
+{}
+
+/// Each tree of the items by the relation is found: where none is found there is none, and where one
+/// is found no two differ.
 pub fn derived_are_found()
     ensures { DerivedAreFound }
 {}
