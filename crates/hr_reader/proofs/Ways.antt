@@ -150,13 +150,16 @@ passing_matches {T} {Is} {R} {test} {f} t m = record {
       flat_among (λ (way : Way T). if test way.0 then way ∷ [] else []) (f ts) (x, us) (x, us) (m.complete x ts us r.1) (among_if (x, us) (x, us) (test x) (t.passed x r.0) refl);
 }
 
+moved : {A : Type 0} (P : A → Type 0) (a b : A) → b ≡ a → P a → P b
+moved P a b e p = subst P (sym e) p
+
 pub behind_sound : {S T : Type 0} {R : S → Reading} {Q : S → T → Reading} {f : Finder S} {g : S → Finder T}
     → Sound R f → ((x : S) → Sound (Q x) (g x)) → Sound (λ (p : S × T). R p.0 ▷ Q p.0 p.1) (behind f g)
 behind_sound {S} {T} {R} {Q} {f} {g} m n = record {
   sound = λ x ts us h.
       let k = among_flat (λ (way : Way S). map (λ (next : Way T). ((way.0, next.0), next.1)) (g way.0 way.1)) (f ts) (x, us) h in
       let j = among_map (λ (next : Way T). ((k.0.0, next.0), next.1)) (g k.0.0 k.0.1) (x, us) k.2 in
-      subst (λ (w : Way (S × T)). (R w.0.0 ▷ Q w.0.0 w.0.1) ts w.1) (sym {b = ((k.0.0, j.0.0), j.0.1)} j.1) (k.0.1, m.sound k.0.0 ts k.0.1 k.1, (n k.0.0).sound j.0.0 k.0.1 j.0.1 j.2);
+      moved (λ (w : Way (S × T)). (R w.0.0 ▷ Q w.0.0 w.0.1) ts w.1) ((k.0.0, j.0.0), j.0.1) (x, us) j.1 (k.0.1, m.sound k.0.0 ts k.0.1 k.1, (n k.0.0).sound j.0.0 k.0.1 j.0.1 j.2);
 }
 
 pub behind_found : {S T : Type 0} (f : Finder S) (g : S → Finder T) (x : S) (y : T) (ts vs us : List Placed)

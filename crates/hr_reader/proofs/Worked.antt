@@ -1,6 +1,8 @@
 -- What the reader finds of worked texts, computed.
-use Rattle.std.proofs.Common.{◌≡◌, ℕ, List, [], ◌∷◌, length, refl, sym, ap, subst, inl, inr, arith}
+use Rattle.std.proofs.Common.{◌≡◌, ℕ, List, [], length, refl}
 use Rattle.hr_base.specs.declared.lexeme.Item.{Item}
+use lib.Chars.{codes}
+use Rattle.hr_rules.specs.Lexing.{joined}
 use Rattle.hr_rules.specs.CanFollow.{can_follow}
 use Rattle.hr_rules.specs.Roles.{role_of}
 use Rattle.hr_tree.specs.declared.modules.Module.{Module}
@@ -9,7 +11,6 @@ use Rattle.hr_grammar.specs.Worked.{annotated_in_let, section_of_lambda, case_in
 use Rattle.hr_derives.specs.Modules.{Derives}
 use Rattle.hr_derives.specs.Worked.{annotated_in_let_items, section_of_lambda_items, case_in_if_items, sum_behind_case_items, defines_a}
 use Rattle.hr_derives.proofs.Worked.{worked_texts_lem}
-use Rattle.hr_reader.specs.Ways.{Among}
 use Rattle.hr_reader.specs.Modules.{trees_of}
 use Rattle.hr_reader.specs.Worked.{HasOneTree, HasSomeTree, HasNoTree, case_in_tuple_items, case_in_comprehension_items, case_in_sequence_items, case_in_case_items, where_in_let_items, module_items, braced_items, closing_items, class_items, let_without_in_items, then_at_margin_items, twice_annotated_items, case_or_comprehension_items, WorkedTextsAreFound}
 use Rattle.hr_reader.proofs.Modules.{derived_are_found_lem, only_one}
@@ -20,8 +21,9 @@ one_tree tree items d e =
     only_one tree (trees_of nesting_limit (record { list = items; tail = tree.tail })) e (derived_are_found_lem.found nesting_limit (record { list = items; tail = tree.tail }) tree d refl)
 
 -- where none is found, none is derived
-no_tree : (items : List Item) → ((tail : List ℕ) → trees_of nesting_limit (record { list = items; tail = tail }) ≡ []) → HasNoTree items
-no_tree items e = record {
+no_tree : (text : List ℕ) (items : List Item) → joined items [] ≡ text → ((tail : List ℕ) → trees_of nesting_limit (record { list = items; tail = tail }) ≡ []) → HasNoTree text items
+no_tree text items s e = record {
+  spelled = s;
   found = e;
   derived = λ tree d. derived_are_found_lem.none nesting_limit (record { list = items; tail = tree.tail }) (e tree.tail) tree d refl;
 }
@@ -42,33 +44,33 @@ in_sum : length (trees_of nesting_limit (record { list = sum_behind_case_items; 
 unfolding can_follow role_of
 in_sum = refl
 
-case_in_tuple : HasSomeTree case_in_tuple_items
+case_in_tuple : HasSomeTree (codes "a = (case x of y -> 1, 2)") case_in_tuple_items
 unfolding can_follow role_of
-case_in_tuple = refl
+case_in_tuple = record { spelled = refl; found = refl }
 
-case_in_comprehension : HasSomeTree case_in_comprehension_items
+case_in_comprehension : HasSomeTree (codes "a = [case x of y -> 1 : [] | y <- z]") case_in_comprehension_items
 unfolding can_follow role_of
-case_in_comprehension = refl
+case_in_comprehension = record { spelled = refl; found = refl }
 
-case_in_sequence : HasSomeTree case_in_sequence_items
+case_in_sequence : HasSomeTree (codes "a = [case x of y -> 1 ..]") case_in_sequence_items
 unfolding can_follow role_of
-case_in_sequence = refl
+case_in_sequence = record { spelled = refl; found = refl }
 
-case_in_case : HasSomeTree case_in_case_items
+case_in_case : HasSomeTree (codes "a = case case x of y -> y of z -> z") case_in_case_items
 unfolding can_follow role_of
-case_in_case = refl
+case_in_case = record { spelled = refl; found = refl }
 
-where_in_let : HasSomeTree where_in_let_items
+where_in_let : HasSomeTree (codes "a = let b = c where c = 1 in b") where_in_let_items
 unfolding can_follow role_of
-where_in_let = refl
+where_in_let = record { spelled = refl; found = refl }
 
-whole : HasSomeTree module_items
+whole : HasSomeTree (codes "module M (f,) where\nimport N ()\ndata T = C T | D\nf :: T -> T\nf x | y = z\n where y = x") module_items
 unfolding can_follow role_of
-whole = refl
+whole = record { spelled = refl; found = refl }
 
-braced : HasSomeTree braced_items
+braced : HasSomeTree (codes "{; a = b;; c + d = - 1; }") braced_items
 unfolding can_follow role_of
-braced = refl
+braced = record { spelled = refl; found = refl }
 
 closing : (tail : List ℕ) → trees_of nesting_limit (record { list = closing_items; tail = tail }) ≡ []
 unfolding can_follow role_of
@@ -107,10 +109,10 @@ worked_texts_are_found_lem = record {
   where_in_let = where_in_let;
   whole_module = whole;
   braced = braced;
-  closing = no_tree closing_items closing;
-  class_word = no_tree class_items class_word;
-  let_without_in = no_tree let_without_in_items let_without_in;
-  then_at_margin = no_tree then_at_margin_items then_at_margin;
-  twice_annotated = no_tree twice_annotated_items twice_annotated;
-  case_or_comprehension = no_tree case_or_comprehension_items case_or_comprehension;
+  closing = no_tree _ closing_items refl closing;
+  class_word = no_tree _ class_items refl class_word;
+  let_without_in = no_tree _ let_without_in_items refl let_without_in;
+  then_at_margin = no_tree _ then_at_margin_items refl then_at_margin;
+  twice_annotated = no_tree _ twice_annotated_items refl twice_annotated;
+  case_or_comprehension = no_tree _ case_or_comprehension_items refl case_or_comprehension;
 }

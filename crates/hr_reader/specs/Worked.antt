@@ -3,6 +3,7 @@ use Rattle.std.specs.Prelude.{ℕ, ◌≡◌, List, [], ◌∷◌, length}
 use lib.Chars.{codes}
 use Rattle.hr_base.specs.declared.lexeme.Class.{Class}
 use Rattle.hr_base.specs.declared.lexeme.Item.{Item}
+use Rattle.hr_rules.specs.Lexing.{joined}
 use Rattle.hr_tree.specs.declared.modules.Module.{Module}
 use Rattle.hr_grammar.specs.Yields.{nesting_limit}
 use Rattle.hr_grammar.specs.Worked.{item, word, mark, bracket, joint, annotated_in_let, section_of_lambda, case_in_if, sum_behind_case}
@@ -30,12 +31,14 @@ line class text = item class (codes "\n") text
 abbrev pub HasOneTree : Module → List Item → Type 0
 HasOneTree tree items = trees_of nesting_limit (record { list = items; tail = tree.tail }) ≡ tree ∷ []
 
--- it finds one tree, whatever that is
-abbrev pub HasSomeTree : List Item → Type 0
-HasSomeTree items = length (trees_of nesting_limit (record { list = items; tail = [] })) ≡ 1
+-- of the items of this text it finds one tree, whatever that is
+pub record HasSomeTree (text : List ℕ) (items : List Item) : Type 0 where
+  pub spelled : joined items [] ≡ text
+  pub found : length (trees_of nesting_limit (record { list = items; tail = [] })) ≡ 1
 
 -- it finds none, so there is none by the relation
-pub record HasNoTree (items : List Item) : Type 0 where
+pub record HasNoTree (text : List ℕ) (items : List Item) : Type 0 where
+  pub spelled : joined items [] ≡ text
   pub found : (tail : List ℕ) → trees_of nesting_limit (record { list = items; tail = tail }) ≡ []
   pub derived : (tree : Module) → Derives nesting_limit tree items → ⊥
 
@@ -119,16 +122,16 @@ pub record WorkedTextsAreFound : Type 0 where
   pub section_of_lambda : HasOneTree (defines_a section_of_lambda) section_of_lambda_items
   pub case_in_if : HasOneTree (defines_a case_in_if) case_in_if_items
   pub sum_behind_case : HasOneTree (defines_a sum_behind_case) sum_behind_case_items
-  pub case_in_tuple : HasSomeTree case_in_tuple_items
-  pub case_in_comprehension : HasSomeTree case_in_comprehension_items
-  pub case_in_sequence : HasSomeTree case_in_sequence_items
-  pub case_in_case : HasSomeTree case_in_case_items
-  pub where_in_let : HasSomeTree where_in_let_items
-  pub whole_module : HasSomeTree module_items
-  pub braced : HasSomeTree braced_items
-  pub closing : HasNoTree closing_items
-  pub class_word : HasNoTree class_items
-  pub let_without_in : HasNoTree let_without_in_items
-  pub then_at_margin : HasNoTree then_at_margin_items
-  pub twice_annotated : HasNoTree twice_annotated_items
-  pub case_or_comprehension : HasNoTree case_or_comprehension_items
+  pub case_in_tuple : HasSomeTree (codes "a = (case x of y -> 1, 2)") case_in_tuple_items
+  pub case_in_comprehension : HasSomeTree (codes "a = [case x of y -> 1 : [] | y <- z]") case_in_comprehension_items
+  pub case_in_sequence : HasSomeTree (codes "a = [case x of y -> 1 ..]") case_in_sequence_items
+  pub case_in_case : HasSomeTree (codes "a = case case x of y -> y of z -> z") case_in_case_items
+  pub where_in_let : HasSomeTree (codes "a = let b = c where c = 1 in b") where_in_let_items
+  pub whole_module : HasSomeTree (codes "module M (f,) where\nimport N ()\ndata T = C T | D\nf :: T -> T\nf x | y = z\n where y = x") module_items
+  pub braced : HasSomeTree (codes "{; a = b;; c + d = - 1; }") braced_items
+  pub closing : HasNoTree (codes "f = )") closing_items
+  pub class_word : HasNoTree (codes "f = class") class_items
+  pub let_without_in : HasNoTree (codes "main s = let x = 1") let_without_in_items
+  pub then_at_margin : HasNoTree (codes "a = if b\nthen c else d") then_at_margin_items
+  pub twice_annotated : HasNoTree (codes "a :: b :: c") twice_annotated_items
+  pub case_or_comprehension : HasNoTree (codes "a = [case x of y | a -> 1 | b <- c]") case_or_comprehension_items
