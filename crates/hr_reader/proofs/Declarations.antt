@@ -39,7 +39,7 @@ use Rattle.hr_derives.specs.Readings as reading
 use Rattle.hr_derives.specs.Declarations.{type_head_reading, construction_reading, new_construction_reading, arguments_reading, left_head_reading, closed_reading, left_side_reading, guarded_reading, guards_reading, plain_reading, body_reading, right_side_reading, decl_reading, decl_over, alt_over}
 use Rattle.hr_reader.specs.Ways.{Among, Way, ◌▶◌, made_by, one, inside}
 use Rattle.hr_reader.specs.Declarations.{type_head_of, type_heads, construction_ways, constructions, has_one_type, new_constructions, arguments, left_head_ways, left_heads, closed_of, closings, left_side_of, left_sides, guarded_of, guarded, last_guarded, guarded_then, guards_by, guards, body_ways, bodies, RightSide, without_where, with_where, right_side_ways, right_sides, decl_ways, decl_layers, decl_found, alt_of, alt_found}
-use Rattle.hr_reader.proofs.Ways.{among_left, among_right, Sound, Matches, Tests, Production, is_sound, either_sound, made_sound, made_found, behind_sound, behind_found, any_sound, chosen, on_sound, produced, produced_on, sound_production, made_matches, one_matches, then_matches, passing_matches, maybe_matches, inside_matches, so_matches, so_given, same_matches}
+use Rattle.hr_reader.proofs.Ways.{among_left, among_right, Sound, Matches, Tests, Production, is_sound, either_sound, made_sound, made_found, behind_sound, behind_found, any_sound, chosen, on_sound, produced, produced_on, sound_production, made_matches, one_matches, then_matches, passing_matches, maybe_matches, inside_matches, so_matches, so_given, same_matches, with_ending}
 use Rattle.hr_reader.proofs.Tests.{tests_of, tests_word, tests_reserved, tests_special, tests_digit, tests_one, tests_both, tests_at}
 use Rattle.hr_reader.proofs.Lists.{Shrinks, in_turn_matches, separated_matches, shorter, none_left, all_fit}
 use Rattle.hr_reader.proofs.Names.{one_shrinks, variable_shrinks, operator_shrinks, constructor_shrinks, variables_match, own_constructors_match, own_variable_operators_match, own_constructor_operators_match, own_operators_match}
@@ -389,11 +389,6 @@ decls_sound b n place =
         ),
       ),
     )
-
--- where the ending is that of the production
-with_ending : {T : Type 0} (R : Ending → Type 0) (x : T) (ending other : Ending) (us : List Placed) (ways : List (Way (T × Ending))) → ending ≡ other
-    → (R other → Among {T = Way (T × Ending)} ((x, other), us) ways) → R ending → Among {T = Way (T × Ending)} ((x, ending), us) ways
-with_ending {T} R x ending other us ways e f = subst (λ k. R k → Among {T = Way (T × Ending)} ((x, k), us) ways) (sym e) f
 
 decls_complete : (b : Level) (n : ℕ) (place : DeclPlace) (layer : Decl-F Decl Exp Qualifier Alt) (ending : Ending) (ts us : List Placed) → decl_reading b.read n place layer ending ts us
     → Among {T = Way (Decl-F Decl Exp Qualifier Alt × Ending)} ((layer, ending), us) (decl_layers b.found n place ts)

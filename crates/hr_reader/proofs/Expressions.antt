@@ -30,10 +30,11 @@ use Rattle.hr_reader.specs.Tests.{is_minus}
 use Rattle.hr_reader.specs.Names.{operators}
 use Rattle.hr_reader.specs.Expressions.{last_alone, operand_then, operands_by, exp_operands_found, qualifier_ways, qualifier_layers, qualifier_found, atom_ways, atom_layers, exp_ways, exp_layers, exp_found}
 use Rattle.hr_reader.specs.Expressions as found
-use Rattle.hr_reader.proofs.Ways.{among_left, among_right, Sound, Matches, Production, is_sound, either_sound, made_sound, made_found, behind_sound, behind_found, any_sound, chosen, on_sound, found_on, produced, produced_on, sound_production, made_matches, one_matches, then_matches, passing_matches, maybe_matches, inside_matches, so_matches, so_given, same_matches}
+use Rattle.hr_reader.proofs.Ways.{among_left, among_right, Sound, Matches, Production, is_sound, either_sound, made_sound, made_found, behind_sound, behind_found, any_sound, chosen, on_sound, found_on, produced, produced_on, sound_production, made_matches, one_matches, then_matches, passing_matches, maybe_matches, inside_matches, so_matches, so_given, same_matches, with_ending}
 use Rattle.hr_reader.proofs.Tests.{tests_word, tests_reserved, tests_special, tests_literal, tests_minus, tests_no_minus, tests_one, tests_has_two, tests_parts, tests_sequence, tests_at}
-use Rattle.hr_reader.proofs.Lists.{Shrinks, in_turn_matches, separated_matches, all_fit}
+use Rattle.hr_reader.proofs.Lists.{Shrinks, in_turn_matches, separated_matches, all_fit, there_shrinks}
 use Rattle.hr_reader.proofs.Names.{one_shrinks, operator_shrinks, named_variables_match, constructors_match, operators_match}
+use Rattle.hr_reader.proofs.Takes.{Takes, some, first_takes, both_stay, one_takes, takes_by, maybe_stays}
 use Rattle.hr_reader.proofs.Finders.{Level}
 
 -- any expression, without its ending
@@ -51,11 +52,7 @@ minus_matches : (n : ℕ) → Matches (reading.maybe (reading.one n IsMinus)) (m
 minus_matches n = maybe_matches (one_matches n tests_minus)
 
 minus_stays : (n : ℕ) (minus : Option Item) (ts us : List Placed) → reading.maybe (reading.one n IsMinus) minus ts us → length us ≤ length ts
-minus_stays n None ts us r = subst (λ k. length k ≤ length ts) (sym r) (all_fit (length ts))
-minus_stays n (Some item) ts us r = weaker (length us) (length ts) (one_shrinks n IsMinus item ts us r)
-  where
-    weaker : (a b : ℕ) → a < b → a ≤ b
-    weaker a b l = omega arith
+minus_stays n minus = (maybe_stays (reading.one n IsMinus) (one_shrinks n IsMinus) minus).no_more
 
 more_operands : (b : Level) (n : ℕ) (free : Bool) (last : ExpPlace) (minus : Option Item) (part : Exp) (operator : Operator) (rest : List (Operand Exp)) (ending : Ending) (ts us : List Placed)
     → (reading.maybe (reading.one n IsMinus) minus ▷ (reading.inside (b.read.exp n free ExpPlace.Operand part) ▷ (spelled n IsOperator operator_items operator ▷ exp_operands b.read n free last rest ending))) ts us
@@ -103,10 +100,6 @@ more_found b n free last k minus part (Some operator) rest ending ts vs ws os us
     (behind_found (inside (b.found.exp n free ExpPlace.Operand)) (λ x. operators n ▶ operands_by b.found n free last k) part (operator, (rest, ending)) vs ws us ((placed_matches b n free ExpPlace.Operand).complete part vs ws r)
     (behind_found (operators n) (λ x. operands_by b.found n free last k) operator (rest, ending) ws os us ((operators_match n).complete operator ws os t) h))))
 
-there_shrinks : (n : ℕ) (operator : Option Operator) (ts us : List Placed) → reading.there (spelled n IsOperator operator_items) operator ts us → length us < length ts
-there_shrinks n None ts us t = elim t [ ]
-there_shrinks n (Some operator) ts us t = operator_shrinks n IsOperator operator ts us t
-
 thrice_shorter : (a b c d k : ℕ) → a < b → b < c → c ≤ d → d ≤ suc k → a ≤ k
 thrice_shorter a b c d k l m o p = omega arith
 
@@ -124,7 +117,7 @@ operands_complete b n free last (suc k) (x ∷ []) ending ts us l r = last_found
 operands_complete b n free last (suc k) (x ∷ (y ∷ xs)) ending ts us l r =
     more_found b n free last k x.minus x.part x.operator (y ∷ xs) ending ts r.0 r.2.0 r.2.2.0 us r.1 r.2.1 r.2.2.1
     (operands_complete b n free last k (y ∷ xs) ending r.2.2.0 us
-    (thrice_shorter (length r.2.2.0) (length r.2.0) (length r.0) (length ts) k (there_shrinks n x.operator r.2.0 r.2.2.0 r.2.2.1) (placed_shrinks b n free ExpPlace.Operand x.part r.0 r.2.0 r.2.1) (minus_stays n x.minus ts r.0 r.1) l)
+    (thrice_shorter (length r.2.2.0) (length r.2.0) (length r.0) (length ts) k (there_shrinks (spelled n IsOperator operator_items) (operator_shrinks n IsOperator) x.operator r.2.0 r.2.2.0 r.2.2.1) (placed_shrinks b n free ExpPlace.Operand x.part r.0 r.2.0 r.2.1) (minus_stays n x.minus ts r.0 r.1) l)
     r.2.2.2)
 
 operands_match : (b : Level) (n : ℕ) (free : Bool) (last : ExpPlace) → Matches (λ (p : List (Operand Exp) × Ending). exp_operands b.read n free last p.0 p.1) (exp_operands_found b.found n free last)
@@ -168,22 +161,17 @@ qualifiers_match b n =
     (same_matches (λ layer ts us r. subst (λ l. qualifier_reading b.read n l ts us) (sym (out-roll-Qualifier layer)) r) (λ layer ts us r. subst (λ l. qualifier_reading b.read n l ts us) (out-roll-Qualifier layer) r)
     (record { sound = (qualifier_sound b n).sound; complete = qualifier_complete b n }))
 
-three_behind : (a b c d : ℕ) → a < b → b < c → c < d → a < d
-three_behind a b c d l m o = omega arith
+whole_takes : (b : Level) (n : ℕ) (part : Exp) → Takes (whole b.read n true part)
+whole_takes b n part = takes_by (λ x. reading.inside (b.read.exp n true ExpPlace.Whole x)) (placed_shrinks b n true ExpPlace.Whole) part
 
-two_behind : (a b c : ℕ) → a ≤ b → b < c → a < c
-two_behind a b c l m = omega arith
-
-qualifier_less : (b : Level) (n : ℕ) (layer : Qualifier-F Decl Exp Qualifier Alt) (ts us : List Placed) → qualifier_reading b.read n layer ts us → length us < length ts
-qualifier_less b n (Qualifier-F.Generator pattern arrow part) ts us r =
-    three_behind (length us) (length r.2.0) (length r.0) (length ts) (placed_shrinks b n true ExpPlace.Whole part r.2.0 us r.2.2) (one_shrinks n IsBackArrow arrow r.0 r.2.0 r.2.1)
-    (b.less.pat n PatPlace.Whole pattern ts r.0 r.1)
-qualifier_less b n (Qualifier-F.Locals word block) ts us r =
-    two_behind (length us) (length r.0) (length ts) (b.less.declarations n DeclPlace.Local block r.0 us r.2) (one_shrinks n (IsWord (codes "let")) word ts r.0 r.1)
-qualifier_less b n (Qualifier-F.Test part) ts us r = placed_shrinks b n true ExpPlace.Whole part ts us r
+qualifier_takes : (b : Level) (n : ℕ) (layer : Qualifier-F Decl Exp Qualifier Alt) → Takes (qualifier_reading b.read n layer)
+qualifier_takes b n (Qualifier-F.Generator pattern arrow part) =
+    first_takes (takes_by (b.read.pat n PatPlace.Whole) (b.less.pat n PatPlace.Whole) pattern) (both_stay (some (one_takes n IsBackArrow arrow)) (some (whole_takes b n part)))
+qualifier_takes b n (Qualifier-F.Locals word block) = first_takes (one_takes n (IsWord (codes "let")) word) (record { no_more = b.less.declarations n DeclPlace.Local block })
+qualifier_takes b n (Qualifier-F.Test part) = whole_takes b n part
 
 qualifiers_shrink : (b : Level) (n : ℕ) → Shrinks (qualifier_over b.read n)
-qualifiers_shrink b n x ts us r = qualifier_less b n (out-Qualifier x) ts us r
+qualifiers_shrink b n x = (qualifier_takes b n (out-Qualifier x)).fewer
 
 -- atoms
 abbrev variable_atom : (b : Level) (n : ℕ) → Production (atom_reading b.read n) Exp-F.Variable
@@ -454,11 +442,6 @@ exps_sound b n free place =
         ),
       ),
     )
-
--- where the ending is that of the production
-with_ending : {T : Type 0} (R : Ending → Type 0) (x : T) (ending other : Ending) (us : List Placed) (ways : List (Way (T × Ending))) → ending ≡ other
-    → (R other → Among {T = Way (T × Ending)} ((x, other), us) ways) → R ending → Among {T = Way (T × Ending)} ((x, ending), us) ways
-with_ending {T} R x ending other us ways e f = subst (λ k. R k → Among {T = Way (T × Ending)} ((x, k), us) ways) (sym e) f
 
 found_atom : (b : Level) (n : ℕ) (free : Bool) (place : ExpPlace) (layer : Exp-F Decl Exp Qualifier Alt) (ending : Ending) (ts us : List Placed) → ending ≡ applied → atom_reading b.read n layer ts us
     → Among {T = Way (Exp-F Decl Exp Qualifier Alt × Ending)} ((layer, ending), us) (exp_layers b.found n free place ts)

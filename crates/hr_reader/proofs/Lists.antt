@@ -79,9 +79,9 @@ more_found {T} {Q} {R} {s} {f} rest g q m part (Some item) ts vs ws us r t h =
     made_found listed_then (f ▶ s ▶ g) (part, (item, rest)) ts us
     (behind_found f (λ x. s ▶ g) part (item, rest) ts vs us (m.complete part ts vs r) (behind_found s (λ x. g) item rest vs ws us (q.complete item vs ws t) h))
 
-there_shrinks : {Q : Item → Reading} → Shrinks Q → (separator : Option Item) (ts us : List Placed) → reading.there Q separator ts us → length us < length ts
-there_shrinks less None ts us t = elim t [ ]
-there_shrinks less (Some item) ts us t = less item ts us t
+pub there_shrinks : {T : Type 0} (R : T → Reading) → Shrinks R → (x : Option T) (ts us : List Placed) → reading.there R x ts us → length us < length ts
+there_shrinks R less None ts us t = elim t [ ]
+there_shrinks R less (Some x) ts us t = less x ts us t
 
 pub twice_shorter : (a b c k : ℕ) → a < b → b < c → c ≤ suc k → a ≤ k
 twice_shorter a b c k l m n = omega arith
@@ -96,7 +96,7 @@ separated_complete {T} {Q} {R} {s} {f} q m few less (suc k) (x ∷ []) ts us l r
 separated_complete {T} {Q} {R} {s} {f} q m few less (suc k) (x ∷ (y ∷ xs)) ts us l r =
     among_right (x ∷ (y ∷ xs), us) (made_by last_listed f ts) (made_by listed_then (f ▶ s ▶ separated_by s f k) ts)
     (more_found (y ∷ xs) (separated_by s f k) q m x.part x.separator ts r.0 r.2.0 us r.1 r.2.1
-    (separated_complete q m few less k (y ∷ xs) r.2.0 us (twice_shorter (length r.2.0) (length r.0) (length ts) k (there_shrinks few x.separator r.0 r.2.0 r.2.1) (less x.part ts r.0 r.1) l) r.2.2))
+    (separated_complete q m few less k (y ∷ xs) r.2.0 us (twice_shorter (length r.2.0) (length r.0) (length ts) k (there_shrinks Q few x.separator r.0 r.2.0 r.2.1) (less x.part ts r.0 r.1) l) r.2.2))
 
 pub separated_matches : {T : Type 0} {Q : Item → Reading} {R : T → Reading} {s : Finder Item} {f : Finder T} → Matches Q s → Matches R f → Shrinks Q → Shrinks R
     → Matches (reading.separated Q R) (separated s f)

@@ -1,5 +1,5 @@
 -- The patterns that are found are those that are read.
-use Rattle.std.proofs.Common.{◌≡◌, ◌≤◌, ◌<◌, ℕ, zero, suc, true, List, [], ◌∷◌, length, Option, Some, None, refl, sym, subst}
+use Rattle.std.proofs.Common.{◌≡◌, ◌≤◌, ℕ, zero, suc, true, List, [], ◌∷◌, length, Option, Some, None, refl, sym, subst}
 use lib.Chars.{codes}
 use Rattle.hr_base.specs.declared.lexeme.Class.{Class}
 use Rattle.hr_base.specs.declared.lexeme.Item.{Item}
@@ -25,7 +25,7 @@ use Rattle.hr_reader.specs.Names.{constructor_operators}
 use Rattle.hr_reader.specs.Patterns.{last_operand, operand_then, operands_by, pat_operands_found, pat_ways, pat_layers, pat_found}
 use Rattle.hr_reader.proofs.Ways.{among_left, among_right, Sound, Matches, Production, is_sound, either_sound, made_sound, made_found, behind_sound, behind_found, any_sound, chosen, on_sound, produced, produced_on, sound_production, made_matches, one_matches, then_matches, passing_matches, so_matches, so_given, same_matches}
 use Rattle.hr_reader.proofs.Tests.{tests_of, tests_word, tests_reserved, tests_special, tests_literal, tests_minus, tests_one, tests_has_two, tests_parts, tests_at}
-use Rattle.hr_reader.proofs.Lists.{in_turn_matches, separated_matches, none_left, all_fit, twice_shorter}
+use Rattle.hr_reader.proofs.Lists.{in_turn_matches, separated_matches, none_left, all_fit, twice_shorter, there_shrinks}
 use Rattle.hr_reader.proofs.Names.{one_shrinks, operator_shrinks, variables_match, constructors_match, constructor_operators_match}
 use Rattle.hr_reader.proofs.Finders.{Level}
 
@@ -67,10 +67,6 @@ more_found b n k None part (Some operator) rest ts vs ws us e r t h =
     (behind_found (b.found.pat n PatPlace.Operand) (λ x. constructor_operators n ▶ operands_by b.found n k) part (operator, rest) ts vs us ((b.each.pat n PatPlace.Operand).complete part ts vs r)
     (behind_found (constructor_operators n) (λ x. operands_by b.found n k) operator rest vs ws us ((constructor_operators_match n).complete operator vs ws t) h)))
 
-there_shrinks : (n : ℕ) (operator : Option Operator) (ts us : List Placed) → reading.there (spelled n IsConstructorOperator operator_items) operator ts us → length us < length ts
-there_shrinks n None ts us t = elim t [ ]
-there_shrinks n (Some operator) ts us t = operator_shrinks n IsConstructorOperator operator ts us t
-
 operands_complete : (b : Level) (n k : ℕ) (operands : List (Operand Pat)) (ts us : List Placed) → length ts ≤ k → pat_operands b.read n operands ts us
     → Among {T = Way (List (Operand Pat))} (operands, us) (operands_by b.found n k ts)
 operands_complete b n k [] ts us l r = elim r [ ]
@@ -80,7 +76,7 @@ operands_complete b n (suc k) (x ∷ []) ts us l r = last_found b n k x ts us r.
 operands_complete b n (suc k) (x ∷ (y ∷ xs)) ts us l r =
     more_found b n k x.minus x.part x.operator (y ∷ xs) ts r.1.0 r.1.2.0 us r.0 r.1.1 r.1.2.1
     (operands_complete b n k (y ∷ xs) r.1.2.0 us
-    (twice_shorter (length r.1.2.0) (length r.1.0) (length ts) k (there_shrinks n x.operator r.1.0 r.1.2.0 r.1.2.1) (b.less.pat n PatPlace.Operand x.part ts r.1.0 r.1.1) l) r.1.2.2)
+    (twice_shorter (length r.1.2.0) (length r.1.0) (length ts) k (there_shrinks (spelled n IsConstructorOperator operator_items) (operator_shrinks n IsConstructorOperator) x.operator r.1.0 r.1.2.0 r.1.2.1) (b.less.pat n PatPlace.Operand x.part ts r.1.0 r.1.1) l) r.1.2.2)
 
 operands_match : (b : Level) (n : ℕ) → Matches (pat_operands b.read n) (pat_operands_found b.found n)
 operands_match b n = record {

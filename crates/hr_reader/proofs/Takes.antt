@@ -5,7 +5,7 @@ use Rattle.hr_rules.specs.declared.block.Placed.{Placed}
 use Rattle.hr_tree.specs.declared.lists.Listed.{Listed}
 use Rattle.hr_derives.specs.Readings.{Reading, ◌▷◌, given}
 use Rattle.hr_derives.specs.Readings as reading
-use Rattle.hr_reader.proofs.Lists.{Shrinks, all_fit}
+use Rattle.hr_reader.proofs.Lists.{Shrinks, all_fit, there_shrinks}
 use Rattle.hr_reader.proofs.Names.{one_shrinks}
 
 -- a lexeme or more
@@ -58,8 +58,7 @@ in_turn_stays R less [] = record { no_more = λ ts us r. subst (λ k. length k �
 in_turn_stays R less (x ∷ xs) = both_stay (some (takes_by R less x)) (in_turn_stays R less xs)
 
 there_takes : {T : Type 0} (R : T → Reading) → Shrinks R → (x : Option T) → Takes (reading.there R x)
-there_takes R less None = record { fewer = λ ts us r. elim r [ ] }
-there_takes R less (Some x) = takes_by R less x
+there_takes R less x = record { fewer = there_shrinks R less x }
 
 pub separated_stays : {T : Type 0} (Q : Item → Reading) (R : T → Reading) → Shrinks Q → Shrinks R → (xs : List (Listed T)) → Stays (reading.separated Q R xs)
 separated_stays Q R few less [] = record { no_more = λ ts us r. subst (λ k. length k ≤ length ts) (sym r) (all_fit (length ts)) }

@@ -281,3 +281,8 @@ pub chosen : {T : Type 0} (finders : List (Finder T)) (k : ℕ) (x : T) (ts us :
 chosen [] k x ts us h = elim h [ ]
 chosen (finder ∷ finders) zero x ts us h = among_left (x, us) (finder ts) (any_of finders ts) h
 chosen (finder ∷ finders) (suc k) x ts us h = among_right (x, us) (finder ts) (any_of finders ts) (chosen finders k x ts us h)
+
+-- where the ending is that of the production
+pub with_ending : {T : Type 0} (R : Ending → Type 0) (x : T) (ending other : Ending) (us : List Placed) (ways : List (Way (T × Ending))) → ending ≡ other
+    → (R other → Among {T = Way (T × Ending)} ((x, other), us) ways) → R ending → Among {T = Way (T × Ending)} ((x, ending), us) ways
+with_ending {T} R x ending other us ways e f = subst (λ k. R k → Among {T = Way (T × Ending)} ((x, k), us) ways) (sym e) f
