@@ -7,6 +7,7 @@ pub mod Lists
 pub mod Modules
 pub mod Names
 pub mod Patterns
+pub mod Rolled
 pub mod Takes
 pub mod Tests
 pub mod Types

@@ -6,7 +6,7 @@ use Rattle.hr_base.specs.declared.lexeme.Item.{Item}
 use Rattle.hr_rules.specs.Lexing.{joined}
 use Rattle.hr_tree.specs.declared.modules.Module.{Module}
 use Rattle.hr_grammar.specs.Yields.{nesting_limit}
-use Rattle.hr_grammar.specs.Worked.{item, word, mark, bracket, joint, annotated_in_let, section_of_lambda, case_in_if, sum_behind_case}
+use Rattle.hr_grammar.specs.Worked.{item, word, mark, bracket, joint, annotated_in_let, section_of_lambda, case_in_if, sum_behind_case, case_in_tuple, case_in_comprehension, case_in_sequence, case_in_case, where_in_let}
 use Rattle.hr_derives.specs.Modules.{Derives}
 use Rattle.hr_derives.specs.Worked.{annotated_in_let_items, section_of_lambda_items, case_in_if_items, sum_behind_case_items, defines_a}
 use Rattle.hr_reader.specs.Modules.{trees_of}
@@ -28,8 +28,14 @@ abbrev line : Class → List ℕ → Item
 line class text = item class (codes "\n") text
 
 -- the reader finds this tree, and no other one
-abbrev pub HasOneTree : Module → List Item → Type 0
-HasOneTree tree items = trees_of nesting_limit (record { list = items; tail = tree.tail }) ≡ tree ∷ []
+abbrev pub IsAlone : Module → List Item → Type 0
+IsAlone tree items = trees_of nesting_limit (record { list = items; tail = tree.tail }) ≡ tree ∷ []
+
+-- of the items of this text it finds this tree alone, which is one by the relation
+pub record HasOneTree (text : List ℕ) (tree : Module) (items : List Item) : Type 0 where
+  pub spelled : joined items [] ≡ text
+  pub alone : IsAlone tree items
+  pub derived : Derives nesting_limit tree items
 
 -- of the items of this text it finds one tree, whatever that is
 pub record HasSomeTree (text : List ℕ) (items : List Item) : Type 0 where
@@ -118,15 +124,15 @@ case_or_comprehension_items =
     ∷ name (codes "a") ∷ mark (codes "->") ∷ number (codes "1") ∷ mark (codes "|") ∷ name (codes "b") ∷ mark (codes "<-") ∷ name (codes "c") ∷ joint (codes "]") ∷ []
 
 pub record WorkedTextsAreFound : Type 0 where
-  pub annotated_in_let : HasOneTree (defines_a annotated_in_let) annotated_in_let_items
-  pub section_of_lambda : HasOneTree (defines_a section_of_lambda) section_of_lambda_items
-  pub case_in_if : HasOneTree (defines_a case_in_if) case_in_if_items
-  pub sum_behind_case : HasOneTree (defines_a sum_behind_case) sum_behind_case_items
-  pub case_in_tuple : HasSomeTree (codes "a = (case x of y -> 1, 2)") case_in_tuple_items
-  pub case_in_comprehension : HasSomeTree (codes "a = [case x of y -> 1 : [] | y <- z]") case_in_comprehension_items
-  pub case_in_sequence : HasSomeTree (codes "a = [case x of y -> 1 ..]") case_in_sequence_items
-  pub case_in_case : HasSomeTree (codes "a = case case x of y -> y of z -> z") case_in_case_items
-  pub where_in_let : HasSomeTree (codes "a = let b = c where c = 1 in b") where_in_let_items
+  pub annotated_in_let : HasOneTree (codes "a = let b = 1 :: Int in b") (defines_a annotated_in_let) annotated_in_let_items
+  pub section_of_lambda : HasOneTree (codes "a = (\\x -> x +)") (defines_a section_of_lambda) section_of_lambda_items
+  pub case_in_if : HasOneTree (codes "a = if case x of y -> y then 1 else 2") (defines_a case_in_if) case_in_if_items
+  pub sum_behind_case : HasOneTree (codes "a = (case a of A -> 1 :: T + 2)") (defines_a sum_behind_case) sum_behind_case_items
+  pub case_in_tuple : HasOneTree (codes "a = (case x of y -> 1, 2)") (defines_a case_in_tuple) case_in_tuple_items
+  pub case_in_comprehension : HasOneTree (codes "a = [case x of y -> 1 : [] | y <- z]") (defines_a case_in_comprehension) case_in_comprehension_items
+  pub case_in_sequence : HasOneTree (codes "a = [case x of y -> 1 ..]") (defines_a case_in_sequence) case_in_sequence_items
+  pub case_in_case : HasOneTree (codes "a = case case x of y -> y of z -> z") (defines_a case_in_case) case_in_case_items
+  pub where_in_let : HasOneTree (codes "a = let b = c where c = 1 in b") (defines_a where_in_let) where_in_let_items
   pub whole_module : HasSomeTree (codes "module M (f,) where\nimport N ()\ndata T = C T | D\nf :: T -> T\nf x | y = z\n where y = x") module_items
   pub braced : HasSomeTree (codes "{; a = b;; c + d = - 1; }") braced_items
   pub closing : HasNoTree (codes "f = )") closing_items
