@@ -12,7 +12,7 @@ use Rattle.hr_tree.specs.declared.lists.Layout.{Layout}
 use Rattle.hr_tree.specs.declared.lists.Piece.{Piece}
 use Rattle.hr_grammar.specs.Words.{IsSemicolon}
 use Rattle.hr_grammar.specs.Nodes.{DeclPlace}
-use Rattle.hr_derives.specs.Readings.{Reading, ◌▷◌, given}
+use Rattle.hr_derives.specs.Readings.{given}
 use Rattle.hr_derives.specs.Readings as reading
 use Rattle.hr_derives.specs.Blocks.{Parts, takes_semicolon, pieces_reading, braced_reading, implicit_reading, layout_reading, block_reading}
 use Rattle.hr_reader.specs.Ways.{Among, Way, Finder, gives, made_by, behind, ◌▶◌, one}

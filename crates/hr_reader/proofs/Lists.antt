@@ -3,7 +3,7 @@ use Rattle.std.proofs.Common.{◌≡◌, ◌≤◌, ◌<◌, ℕ, zero, suc, Lis
 use Rattle.hr_base.specs.declared.lexeme.Item.{Item}
 use Rattle.hr_rules.specs.declared.block.Placed.{Placed}
 use Rattle.hr_tree.specs.declared.lists.Listed.{Listed}
-use Rattle.hr_derives.specs.Readings.{Reading, never, nothing, ◌▷◌, given}
+use Rattle.hr_derives.specs.Readings.{Reading, never, ◌▷◌}
 use Rattle.hr_derives.specs.Readings as reading
 use Rattle.hr_reader.specs.Ways.{Among, Way, Finder, made_by, ◌▶◌, in_turn_by, in_turn, last_listed, listed_then, separated_by, separated}
 use Rattle.hr_reader.proofs.Ways.{among_left, among_right, Sound, Matches, is_sound, gives_sound, either_sound, made_sound, made_found, behind_sound, behind_found}

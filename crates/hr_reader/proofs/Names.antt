@@ -11,7 +11,7 @@ use Rattle.hr_tree.specs.declared.names.Operator.{Operator}
 use Rattle.hr_tree.specs.Names.{variable_items, constructor_items, operator_items}
 use Rattle.hr_grammar.specs.Words.{IsSpecial, IsLeftParen, IsRightParen, IsComma}
 use Rattle.hr_grammar.specs.Spelled.{IsVariable, IsNamedVariable, IsConstructor, IsTypeConstructor, IsOwnConstructor, IsOwnVariableOperator, IsOwnConstructorOperator, IsOwnOperator, IsConstructorOperator, IsVariableOperator, IsOperator, AreCommas}
-use Rattle.hr_derives.specs.Readings.{Reading, ◌▷◌, given, takes, take_all, spelled}
+use Rattle.hr_derives.specs.Readings.{Reading, given, takes, take_all, spelled}
 use Rattle.hr_derives.specs.Readings as reading
 use Rattle.hr_reader.specs.Ways.{Among, Way, Finder, ◌⊕◌, passing, made_by, ◌▶◌, one, in_turn}
 use Rattle.hr_reader.specs.Tests.{is_of, is_special, are_commas}

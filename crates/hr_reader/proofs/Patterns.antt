@@ -17,7 +17,7 @@ use Rattle.hr_grammar.specs.Nodes.{PatPlace}
 use Rattle.hr_grammar.specs.Patterns.{takes_operand, takes_infix}
 use Rattle.hr_grammar.specs.Spelled.{IsConstructorOperator}
 use Rattle.hr_grammar.specs.Words.{IsComma}
-use Rattle.hr_derives.specs.Readings.{Reading, ◌▷◌, spelled}
+use Rattle.hr_derives.specs.Readings.{◌▷◌, spelled}
 use Rattle.hr_derives.specs.Readings as reading
 use Rattle.hr_derives.specs.Patterns.{pat_operands, pat_reading, pat_over}
 use Rattle.hr_reader.specs.Ways.{Among, Way, ◌▶◌, made_by}

@@ -5,7 +5,7 @@ use Rattle.hr_base.specs.declared.lexeme.Ending.{Ending}
 use Rattle.hr_base.specs.declared.lexeme.Item.{Item}
 use Rattle.hr_rules.specs.declared.block.Placed.{Placed}
 use Rattle.hr_rules.specs.Blocks.{goes_on}
-use Rattle.hr_derives.specs.Readings.{Reading, nothing, ◌▷◌, given}
+use Rattle.hr_derives.specs.Readings.{Reading, ◌▷◌, given}
 use Rattle.hr_derives.specs.Readings as reading
 use Rattle.hr_reader.specs.Ways.{Among, Way, Finder, any_of, none, gives, ◌⊕◌, on, passing, made_by, behind, ◌▶◌, one, maybe, inside, ends_as}
 
