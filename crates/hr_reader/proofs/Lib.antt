@@ -8,6 +8,7 @@ pub mod Modules
 pub mod Names
 pub mod Patterns
 pub mod Rolled
+pub mod Short
 pub mod Takes
 pub mod Tests
 pub mod Types

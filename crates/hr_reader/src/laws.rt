@@ -1,5 +1,6 @@
 //! Laws of the plain reader.
 ghost use Rattle.hr_reader.specs.Laws.{DerivedAreFound, FoundAreDerived, FoundAreRead};
+ghost use Rattle.hr_reader.specs.Short.{ShortTextsHaveOneTree};
 ghost use Rattle.hr_reader.specs.Worked.{WorkedTextsAreFound};
 
 /// What the reader finds is a tree of the items by the relation.
@@ -21,4 +22,9 @@ pub fn derived_are_found()
 /// The reader finds one tree of each of some worked texts, and none of others.
 pub fn worked_texts_are_found()
     ensures { WorkedTextsAreFound }
+{}
+
+/// None of the short texts is read as two trees.
+pub fn short_texts_have_one_tree()
+    ensures { ShortTextsHaveOneTree }
 {}

@@ -3,4 +3,7 @@
 
 mod laws;
 
-pub use laws::{derived_are_found, found_are_derived, found_are_read, worked_texts_are_found};
+pub use laws::{
+    derived_are_found, found_are_derived, found_are_read, short_texts_have_one_tree,
+    worked_texts_are_found,
+};
