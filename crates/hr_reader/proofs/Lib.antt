@@ -7,6 +7,7 @@ pub mod Lists
 pub mod Modules
 pub mod Names
 pub mod Patterns
+pub mod Promise
 pub mod Rolled
 pub mod Short
 pub mod Takes

@@ -227,7 +227,7 @@ only_one x (y ∷ []) e (inl f) = ap (λ z. z ∷ []) (sym f)
 only_one x (y ∷ []) e (inr h) = elim h [ ]
 only_one x (y ∷ (z ∷ ys)) e h = absurd (omega arith)
 
-the_only : {T : Type 0} (x y : T) → Among x (y ∷ []) → x ≡ y
+pub the_only : {T : Type 0} (x y : T) → Among x (y ∷ []) → x ≡ y
 the_only x y (inl e) = e
 the_only x y (inr h) = elim h [ ]
 

@@ -7,6 +7,7 @@ pub mod Laws
 pub mod Modules
 pub mod Names
 pub mod Patterns
+pub mod Promise
 pub mod Short
 pub mod Tests
 pub mod Types

@@ -1,6 +1,7 @@
 //! Laws of the plain reader.
 ghost use Rattle.hr_reader.specs.Laws.{DerivedAreFound, FoundAreDerived, FoundAreRead};
 ghost use Rattle.hr_reader.specs.Short.{ShortTextsHaveOneTree};
+ghost use Rattle.hr_reader.specs.Promise.{ReadAreFound, WorkedTextsAreRead};
 ghost use Rattle.hr_reader.specs.Worked.{WorkedTextsAreFound};
 
 /// What the reader finds is a tree of the items by the relation.
@@ -27,4 +28,15 @@ pub fn worked_texts_are_found()
 /// None of the short texts is read as two trees.
 pub fn short_texts_have_one_tree()
     ensures { ShortTextsHaveOneTree }
+{}
+
+/// Each tree within the limit on nesting that yields the items, and whose blocks stand as the layout rule
+/// says, is found: where none is found the items have none, and where one is found they have no other.
+pub fn read_are_found()
+    ensures { ReadAreFound }
+{}
+
+/// Nine worked texts have their tree and no other one, and six texts have none.
+pub fn worked_texts_are_read()
+    ensures { WorkedTextsAreRead }
 {}

@@ -4,6 +4,6 @@
 mod laws;
 
 pub use laws::{
-    derived_are_found, found_are_derived, found_are_read, short_texts_have_one_tree,
-    worked_texts_are_found,
+    derived_are_found, found_are_derived, found_are_read, read_are_found,
+    short_texts_have_one_tree, worked_texts_are_found, worked_texts_are_read,
 };
