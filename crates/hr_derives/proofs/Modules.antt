@@ -13,9 +13,10 @@ use Rattle.hr_derives.specs.Derivations.{Derivations}
 use Rattle.hr_derives.specs.Modules.{comes_behind, decl_parts, alt_parts, declarations_over, derivations, module_reading}
 use Rattle.hr_derives.specs.Laws.{Gives, AllGive, LevelsGive, ModulesGive}
 use Rattle.hr_derives.proofs.Readings.{append_nothing, never_gives, then_gives, given_gives}
-use Rattle.hr_derives.proofs.Types.{types_give_lem}
-use Rattle.hr_derives.proofs.Patterns.{patterns_give_lem}
-use Rattle.hr_derives.proofs.Imports.{header_gives}
+use Rattle.hr_derives.proofs.Taken.{AllTake, taken_gives}
+use Rattle.hr_derives.proofs.Types.{types_take_lem, types_give_lem}
+use Rattle.hr_derives.proofs.Patterns.{patterns_take_lem, patterns_give_lem}
+use Rattle.hr_derives.proofs.Imports.{header_takes}
 use Rattle.hr_derives.proofs.Blocks.{PartsGive, block_gives}
 use Rattle.hr_derives.proofs.Expressions.{exp_over_gives}
 use Rattle.hr_derives.proofs.Declarations.{decl_over_gives, alt_over_gives}
@@ -31,6 +32,9 @@ declarations_give below each m DeclPlace.First block = never_gives
 declarations_give below each m DeclPlace.Top block = block_gives decl_items (decl_parts below) (decl_parts_give below each) BlockKind.Body m DeclPlace.First block
 declarations_give below each m DeclPlace.Local block = block_gives decl_items (decl_parts below) (decl_parts_give below each) BlockKind.Declarations m DeclPlace.Local block
 
+pub levels_take : (levels : ℕ) → AllTake (derivations levels)
+levels_take levels = record { ty = types_take_lem levels; pat = patterns_take_lem levels }
+
 pub levels_give_lem : LevelsGive
 levels_give_lem zero = record {
   ty = λ n place ty. never_gives;
@@ -45,7 +49,7 @@ levels_give_lem (suc levels) = record {
   ty = types_give_lem (suc levels);
   pat = patterns_give_lem (suc levels);
   exp = exp_over_gives (derivations levels) (levels_give_lem levels);
-  decl = decl_over_gives (derivations levels) (levels_give_lem levels);
+  decl = decl_over_gives (derivations levels) (levels_take levels) (levels_give_lem levels);
   alt = alt_over_gives (derivations levels) (levels_give_lem levels);
   declarations = declarations_give (derivations levels) (levels_give_lem levels);
   alternatives = λ m block.
@@ -53,7 +57,7 @@ levels_give_lem (suc levels) = record {
 }
 
 module_gives : (levels : ℕ) (tree : Module) → Gives (module_items tree) (module_reading levels tree)
-module_gives levels tree = then_gives (header_gives tree.header) ((levels_give_lem levels).declarations 0 DeclPlace.Top tree.body)
+module_gives levels tree = then_gives (taken_gives (header_takes tree.header)) ((levels_give_lem levels).declarations 0 DeclPlace.Top tree.body)
 
 pub modules_give_lem : ModulesGive
 modules_give_lem levels tree items d =

@@ -6,7 +6,6 @@ use Rattle.hr_base.specs.declared.lexeme.Item.{Item}
 use Rattle.hr_rules.specs.declared.block.Placed.{Placed}
 use Rattle.hr_rules.specs.Blocks.{mark}
 use Rattle.hr_tree.specs.declared.lists.Listed.{Listed}
-use Rattle.hr_tree.specs.declared.lists.Operand.{Operand}
 use Rattle.hr_tree.specs.declared.names.Operator.{Operator}
 use Rattle.hr_tree.specs.Names.{maybe_item, maybe_operator, operator_items}
 use Rattle.hr_tree.specs.Lists.{listed_items}
@@ -89,7 +88,7 @@ given_same P same g = record {
 pub one_gives : (n : ℕ) (Is : Item → Type 0) (item : Item) → Gives (item ∷ []) (one n Is item)
 one_gives n Is item = given_gives (Is item) (takes_gives n item)
 
-take_all_gives : (n : ℕ) (items : List Item) → Gives items (take_all n items)
+pub take_all_gives : (n : ℕ) (items : List Item) → Gives items (take_all n items)
 take_all_gives n [] = nothing_gives
 take_all_gives n (item ∷ items) = then_gives (takes_gives n item) (take_all_gives n items)
 
@@ -99,11 +98,6 @@ spelled_gives n Is items_of x = given_gives (Is x) (take_all_gives n (items_of x
 pub in_turn_gives : {T : Type 0} (items_of : T → List Item) (of : T → Reading) → ((x : T) → Gives (items_of x) (of x)) → (xs : List T) → Gives (flat_map items_of xs) (in_turn of xs)
 in_turn_gives items_of of each [] = nothing_gives
 in_turn_gives items_of of each (x ∷ xs) = then_gives (each x) (in_turn_gives items_of of each xs)
-
--- items, each by itself
-pub each_one_gives : (n : ℕ) (Is : Item → Type 0) (items : List Item) → Gives items (in_turn (one n Is) items)
-each_one_gives n Is [] = nothing_gives
-each_one_gives n Is (item ∷ items) = then_gives (one_gives n Is item) (each_one_gives n Is items)
 
 pub maybe_one_gives : (n : ℕ) (Is : Item → Type 0) (item : Option Item) → Gives (maybe_item item) (maybe (one n Is) item)
 maybe_one_gives n Is None = nothing_gives
@@ -118,7 +112,7 @@ operator_there_gives n Is None = never_gives
 operator_there_gives n Is (Some operator) = spelled_gives n Is operator_items operator
 
 -- a last part, behind which no separator stands
-alone : {T : Type 0} (items_of : T → List Item) (listed : Listed T) → listed.separator ≡ None → items_of listed.part ≡ (items_of listed.part ++ maybe_item listed.separator) ++ []
+pub alone : {T : Type 0} (items_of : T → List Item) (listed : Listed T) → listed.separator ≡ None → items_of listed.part ≡ (items_of listed.part ++ maybe_item listed.separator) ++ []
 alone items_of listed e =
     sym (append_nothing (items_of listed.part)) ∙ sym (ap (λ s. items_of listed.part ++ maybe_item s) e) ∙ sym (append_nothing (items_of listed.part ++ maybe_item listed.separator))
 
@@ -135,16 +129,3 @@ inside_gives g = record { gives = λ ts us r. (g r.0).gives ts us r.1; leaves = 
 
 pub ends_as_gives : {items : List Item} (turn : Ending → Ending) {reading : Ending → Reading} → ((ending : Ending) → Gives items (reading ending)) → (ending : Ending) → Gives items (ends_as turn reading ending)
 ends_as_gives turn g ending = record { gives = λ ts us r. (g r.0).gives ts us r.2; leaves = λ ts us r. (g r.0).leaves ts us r.2 }
-
--- an operand that an operator follows, with no minus before it or with one that was read
-pub operand_gives : {T : Type 0} {rest : List Item} {part operator behind : Reading} (items_of : T → List Item) (operand : Operand T) → Gives (items_of operand.part) part
-    → Gives (maybe_operator operand.operator) operator → Gives rest behind → Gives ((items_of operand.part ++ maybe_operator operand.operator) ++ rest) (part ▷ operator ▷ behind)
-operand_gives {rest = rest} items_of operand g h k =
-    same_gives (sym (append_assoc (items_of operand.part) (maybe_operator operand.operator) rest)) (then_gives g (then_gives h k))
-
--- the last operand
-pub last_operand : {T : Type 0} (items_of : T → List Item) (operand : Operand T) → operand.operator ≡ None
-    → items_of operand.part ≡ (items_of operand.part ++ maybe_operator operand.operator) ++ []
-last_operand items_of operand e =
-    sym (append_nothing (items_of operand.part)) ∙ sym (ap (λ o. items_of operand.part ++ maybe_operator o) e)
-    ∙ sym (append_nothing (items_of operand.part ++ maybe_operator operand.operator))

@@ -33,7 +33,7 @@ semicolon_goes Ending.WhereBlock is = refl
 semicolon_goes Ending.Fixity is = refl
 
 -- behind a part another one starts at the column alone
-starts_at : (n : ℕ) (ending : Ending) (next : Placed) (rest : List Placed) → ending ≢ Ending.Nothing → starts_part n ending (next ∷ rest) ≡ true → at_margin n next ≡ true
+pub starts_at : (n : ℕ) (ending : Ending) (next : Placed) (rest : List Placed) → ending ≢ Ending.Nothing → starts_part n ending (next ∷ rest) ≡ true → at_margin n next ≡ true
 starts_at n Ending.Nothing next rest is s = absurd (is refl)
 starts_at n (Ending.Applied where_free guarded) next rest is s = s
 starts_at n (Ending.Closed where_free guarded) next rest is s = s

@@ -20,6 +20,7 @@ use Rattle.hr_tree.specs.Lists.{block_items}
 use Rattle.hr_tree.specs.Yields.{ty_items, pat_items, exp_items, decl_items, alt_items, import_items, header_items, module_items}
 use Rattle.hr_grammar.specs.Nodes.{Nodes, TyPlace, PatPlace, ExpPlace, DeclPlace}
 use Rattle.hr_grammar.specs.Yields.{nodes, nesting_limit, IsModule, Yields, DeepYields}
+use Rattle.hr_grammar.specs.Offside.{Offside}
 use Rattle.hr_derives.specs.Readings.{Reading, maybe}
 use Rattle.hr_derives.specs.Blocks.{pieces_reading}
 use Rattle.hr_derives.specs.Imports.{import_reading, header_reading}
@@ -109,3 +110,11 @@ pub record EndingsAreSome (read : Derivations) : Type 0 where
 
 abbrev pub PartsEnd : Type 0
 PartsEnd = (levels : ℕ) → EndingsAreSome (derivations levels)
+
+-- the blocks of what is read as a module stand as the layout rule says
+abbrev pub ModulesStand : Type 0
+ModulesStand = (levels : ℕ) (tree : Module) (items : List Item) → Derives levels tree items → Offside tree
+
+-- what is read as a module within the limit on nesting is yielded by a tree of the grammar that stands so
+abbrev pub ModulesYield : Type 0
+ModulesYield = (tree : Module) (items : List Item) → Derives nesting_limit tree items → Yields tree (record { list = items; tail = tree.tail }) × Offside tree

@@ -1,5 +1,5 @@
 //! Laws of the relation.
-ghost use Rattle.hr_derives.specs.Laws.{ImportsGive, LevelsAre, LevelsGive, ModulesAre, ModulesGive, PartsEnd, PatternsGive, PiecesStop, ReadingsShrink, TypesGive};
+ghost use Rattle.hr_derives.specs.Laws.{ImportsGive, LevelsAre, LevelsGive, ModulesAre, ModulesGive, ModulesStand, ModulesYield, PartsEnd, PatternsGive, PiecesStop, ReadingsShrink, TypesGive};
 ghost use Rattle.hr_derives.specs.Worked.{WorkedTexts};
 
 /// A type that is read takes its own items.
@@ -55,4 +55,14 @@ pub fn parts_end()
 /// The items of a worked text are read as its tree: an annotated expression in a block that `in` ends.
 pub fn worked_texts()
     ensures { WorkedTexts }
+{}
+
+/// The blocks of what is read as a module stand as the layout rule says.
+pub fn modules_stand()
+    ensures { ModulesStand }
+{}
+
+/// What is read as a module within the limit on nesting is yielded by a tree of the grammar whose blocks stand so.
+pub fn modules_yield()
+    ensures { ModulesYield }
 {}

@@ -1,5 +1,5 @@
 -- What a renaming in a module of the plain form writes, and when each refusal comes.
-use Rattle.std.specs.Prelude.{◌≡◌, ℕ, zero, suc, ◌-◌, ◌≤◌, ◌<◌, Bool, true, false, nat_lt, nat_eq, List, [], ◌∷◌, length, Some, slice_get, position, if◌then◌else◌, codes}
+use Rattle.std.specs.Prelude.{◌≡◌, ℕ, zero, suc, ◌-◌, ◌≤◌, ◌<◌, Bool, true, false, nat_lt, nat_eq, List, [], ◌∷◌, length, Option, Some, None, slice_get, position, if◌then◌else◌, codes}
 use Rattle.std.specs.List.{list_any}
 use Rattle.std.specs.Cmp.Lexicographic.{pointwise}
 use Rattle.hr_base.specs.declared.place.Pos.{Pos}
@@ -87,6 +87,14 @@ pub record IsRenamed (tree : Module) (module_name : List ℕ) (pos : Pos) (new t
   pub target : Module
   pub is_target : IsTarget tree lexeme item.lexeme.text new text target
   pub within : length text ≤ module_limit
+
+-- the number of a refusal; none for want of memory
+abbrev pub number_of : Why → Option ℕ
+number_of (Why.NoSuchThing at) = Some 31
+number_of Why.WrongForm = Some 33
+number_of Why.NotBuilt = Some 58
+number_of Why.OverLimit = Some 57
+number_of (Why.Memory error) = None
 
 -- why a renaming is refused, the first that applies: no name begins at the position (31), the new name is no varid
 -- (33), some lexeme has it as its text (58), the new text is too long (57)

@@ -1,7 +1,7 @@
 ghost use Rattle.std.specs.Prelude.{◌≡◌, List, ℕ, IfErr, IfOk, IfSome, MatchOption};
 ghost use Rattle.hr_plain_tree.specs.Yields.{items_of};
 ghost use Rattle.hr_plain.specs.Form.{IsPlain};
-ghost use Rattle.hr_plain.specs.Renaming.{IsFound, IsRenamed, IsWhy, NoName, Respelled, is_spelled};
+ghost use Rattle.hr_plain.specs.Renaming.{IsFound, IsRenamed, IsWhy, NoName, Respelled, is_spelled, number_of};
 
 use crate::binding::{occurrences, owner_of};
 use crate::lexemes::is_variable;
@@ -34,7 +34,9 @@ pub enum Why {
 
 impl Why {
     /// The number of the refusal; none for want of memory.
-    pub fn number(&self) -> Option<u32> {
+    pub fn number(&self) -> Option<u32>
+        ensures { result ≡ number_of self.now }
+    {
         match self {
             Why::NoSuchThing { .. } => Some(31),
             Why::WrongForm => Some(33),
@@ -42,12 +44,6 @@ impl Why {
             Why::OverLimit => Some(57),
             Why::Memory(_) => None,
         }
-    }
-}
-
-impl From<AllocError> for Why {
-    fn from(error: AllocError) -> Why {
-        Why::Memory(error)
     }
 }
 

@@ -1,0 +1,10 @@
+pub mod Agreeing
+pub mod Regaining
+pub mod RegainingBlocks
+pub mod RegainingDeclarations
+pub mod RegainingExpressions
+pub mod RegainingModules
+pub mod RegainingPieces
+pub mod RegainingTrees
+pub mod Retaken
+pub mod RetakenLeaves

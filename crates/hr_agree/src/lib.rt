@@ -1,0 +1,7 @@
+//! The relation by cases and the promise agree: a tree of the grammar whose blocks stand as the layout rule says is
+//! read of its own items, level by level. Nothing here runs.
+#![tactic(auto)]
+
+mod laws;
+
+pub use laws::{modules_are_derived, relation_is_promise, yielded_is_derived};

@@ -1,0 +1,17 @@
+pub mod Blocks
+pub mod Declarations
+pub mod Expressions
+pub mod Finders
+pub mod Imports
+pub mod Lists
+pub mod Modules
+pub mod Names
+pub mod Patterns
+pub mod Promise
+pub mod Rolled
+pub mod Short
+pub mod Takes
+pub mod Tests
+pub mod Types
+pub mod Ways
+pub mod Worked

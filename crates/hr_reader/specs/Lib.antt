@@ -1,0 +1,15 @@
+pub mod Blocks
+pub mod Declarations
+pub mod Expressions
+pub mod Finders
+pub mod Imports
+pub mod Laws
+pub mod Modules
+pub mod Names
+pub mod Patterns
+pub mod Promise
+pub mod Short
+pub mod Tests
+pub mod Types
+pub mod Ways
+pub mod Worked
