@@ -1,3 +1,4 @@
+pub mod Codes
 pub mod Report
 pub mod Runs
 pub mod Shown

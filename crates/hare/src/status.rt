@@ -1,4 +1,5 @@
-ghost use Rattle.std.specs.Prelude.{◌≤◌};
+ghost use Rattle.std.specs.Prelude.{◌≡◌};
+ghost use Rattle.hare.specs.Codes.{code_of};
 
 /// How a run ended; `code` is the program's exit status.
 #[derive(Clone, Copy, Debug, PartialEq, Eq)]
@@ -28,7 +29,7 @@ pub enum Status {
 impl Status {
     /// The exit status.
     pub fn code(self) -> u8
-        ensures { result ≤ 9 }
+        ensures { result ≡ code_of self }
     {
         match self {
             Status::Done => 0,
