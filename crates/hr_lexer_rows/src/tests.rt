@@ -6,6 +6,7 @@ mod names;
 mod numbers;
 mod refusals;
 
+use crate::{number_of, place_of};
 use hr_base::Items;
 use hr_lexer::{LexError, lex};
 use std::alloc::{AllocError, Global};
@@ -15,12 +16,16 @@ use std::process::Abort;
 fn shown(alloc: Global, text: &[u8]) -> Result<String, AllocError> {
     match lex(alloc, text) {
         Ok(items) => shown_items(alloc, &items),
-        Err(LexError::TooLong) => String::from_str(alloc, "5"),
-        Err(LexError::BadUtf8 { place }) => format!(in alloc; "1 at {place}"),
-        Err(LexError::OpenComment { place }) => format!(in alloc; "3 at {place}"),
-        Err(LexError::LiteralTooWide { place }) => format!(in alloc; "4 at {place}"),
-        Err(LexError::BadLexeme { place }) => format!(in alloc; "2 at {place}"),
         Err(LexError::Memory(error)) => Err(error),
+        Err(error) => shown_refusal(alloc, &error),
+    }
+}
+
+fn shown_refusal(alloc: Global, error: &LexError) -> Result<String, AllocError> {
+    let number = number_of(error).unwrap_or(0);
+    match place_of(error) {
+        Some(place) => format!(in alloc; "{number} at {place}"),
+        None => format!(in alloc; "{number}"),
     }
 }
 
