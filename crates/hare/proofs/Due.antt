@@ -1,11 +1,11 @@
 -- The status of a run is the one that words and files lead to, unless something failed.
-use Rattle.std.proofs.Common.{◌≡◌, ◌≢◌, ◌⊎◌, inl, inr, ℕ, List, Option, Some, None, ◌∙◌, refl, subst}
+use Rattle.std.proofs.Common.{◌≡◌, ◌≢◌, ◌⊎◌, inl, inr, ℕ, List, Option, Some, None, ◌∙◌, refl, sym, subst}
 use Rattle.std.specs.FinMap.{get}
 use Rattle.hr_shelf.specs.Outside.{Files, HoldsMore, Reads, Rose, ToldOr}
 use Rattle.hr_plain.specs.Renaming.{module_limit}
 use Rattle.hare.specs.declared.status.Status.{Status}
 use Rattle.hare.specs.Runs.{Outside, AreGood, Ends, Holds, IsDue, IsRead, Answers}
-use Rattle.hare.specs.Words.{Renaming}
+use Rattle.hare.specs.Words.{Renaming, renaming_of}
 use Rattle.hare.proofs.Causes.{one_due}
 
 -- a report is told only of what has one
@@ -21,9 +21,16 @@ module _ (words : List (List ℕ)) (before after : Outside) (files : Files) (due
   due_is : (status : Status) → IsDue words files status → Answers before after due status
   due_is status p = inl (one_due words files status due p is)
 
+  -- words that are a command are not bad
+  not_bad : (renaming : Renaming) → AreGood words renaming → due ≢ Status.BadWords
+  not_bad renaming good bad =
+      let none : renaming_of words ≡ None = subst (IsDue words files) bad is in
+      let both : ◌≡◌ {A = Option Renaming} (Some renaming) None = sym good ∙ none in
+      cc
+
   read_fault : (renaming : Renaming) → AreGood words renaming → (get files renaming.file ≡ None) ⊎ Rose before.read_faults after.read_faults → Answers before after due Status.ReadFault
   read_fault renaming good (inl none) = due_is Status.ReadFault (renaming, good, none)
-  read_fault renaming good (inr rose) = inr (inl (refl, rose))
+  read_fault renaming good (inr rose) = inr (inl (refl, not_bad renaming good, rose))
 
   answers_by : (status : Status) → Ends words before after status → Answers before after due status
   answers_by Status.Done (text, (renaming, old, new, read, step, now, line), written) = due_is Status.Done (renaming, old, new, read.good, holds renaming old read, step)

@@ -113,11 +113,12 @@ IsDue words files ReportFault = ⊥
 IsDue words files Memory = ⊥
 IsDue words files OverLimit = (renaming : Renaming) × AreGood words renaming × HoldsMore files renaming.file module_limit
 
--- the run ended with the status that was due, or a read, a replace or a write failed, or there was no memory
+-- the run ended with the status that was due, or a read, a replace or a write failed, or there was no memory; words
+-- that are no command read nothing
 abbrev pub Answers : Outside → Outside → Status → Status → Type 0
 Answers before after due status =
     (status ≡ due)
-    ⊎ (((status ≡ ReadFault) × Rose before.read_faults after.read_faults)
+    ⊎ (((status ≡ ReadFault) × (due ≢ BadWords) × Rose before.read_faults after.read_faults)
     ⊎ (((status ≡ WriteFault) × (due ≡ Done) × Rose before.replace_faults after.replace_faults)
     ⊎ (((status ≡ ReportFault) × Rose before.write_faults after.write_faults) ⊎ (status ≡ Memory))))
 

@@ -20,6 +20,7 @@ pub mod QualifiedRead
 pub mod QuotesRead
 pub mod RunsRead
 pub mod SideBySide
+pub mod SpansJoin
 pub mod Splits
 pub mod Statements
 pub mod Steps

@@ -4,5 +4,6 @@ pub mod NameReader
 pub mod NumberReader
 pub mod QuoteReader
 pub mod Refusals
+pub mod Spans
 pub mod TriviaReader
 pub mod Words

@@ -1,5 +1,5 @@
 //! The lexer's one call.
-ghost use Rattle.std.specs.Prelude.{◌≡◌, ◌<◌, ◌≤◌, ◌++◌, ◌∷◌, [], true, length, IfErr, IfOk, IfSome};
+ghost use Rattle.std.specs.Prelude.{◌≡◌, ◌<◌, ◌≤◌, ◌++◌, true, length, IfErr, IfOk, IfSome};
 ghost use Rattle.std.specs.Str.{all_scalars, encode_utf8_all};
 ghost use Rattle.hr_rules.specs.Lexemes.{class_of, is_piece, bars, led_by, LexesText};
 ghost use Rattle.hr_rules.specs.Lexing.{Lexes};
@@ -7,6 +7,7 @@ ghost use Rattle.hr_base.specs.declared.lexeme.Items.{Items};
 ghost use Rattle.hr_lexer.specs.declared.error.LexError.{LexError};
 ghost use Rattle.hr_lexer.specs.Refusals.{cause_of, longest_text, IsCause, IsHalt, IsStop, OrMemory, Reads, Refuses};
 ghost use Rattle.hr_lexer.specs.Marks.{mark_count};
+ghost use Rattle.hr_lexer.specs.Spans.{behind_all, items_at, AreWithin};
 ghost use Rattle.hr_lexer.specs.LexemeReader.{lexeme_at, special_at};
 
 use crate::LexError;
@@ -14,9 +15,10 @@ use crate::comments::{opens, trivia_len};
 use crate::names::{conid_at, symbols_at, word_at};
 use crate::numbers::number_at;
 use crate::quotes::{char_at_quote, string_at_quote};
-use crate::source::{Source, split};
+use crate::source::{Source, split, utf8_len};
+use crate::spans::{Span, items_at};
 use crate::taken::Taken;
-use hr_base::{Class, Item, Items, Lexeme, Seq, Text};
+use hr_base::{Class, Items, Text};
 use hr_rules::{Kind, kind_of};
 use std::alloc::{AllocError, Global};
 use std::str;
@@ -96,7 +98,8 @@ fn with_front(alloc: Global, front: &[u8], text: &Text) -> Result<Text, AllocErr
     Ok(Text { bytes })
 }
 
-/// The items of what is left of a text of this many bytes.
+/// The items of what is left of a text of this many bytes. Only a text that has items takes memory
+/// for each of them.
 fn read_items(alloc: Global, len: usize, source: Source) -> Result<Items, LexError>
     requires spelled { source.bytes.now ≡ encode_utf8_all source.characters.now }
     requires scalars { all_scalars source.characters.now ≡ true }
@@ -104,44 +107,35 @@ fn read_items(alloc: Global, len: usize, source: Source) -> Result<Items, LexErr
     ensures read { IfOk result (λ items. Lexes class_of is_piece bars source.entry.bytes.now items.list items.tail) }
     ensures refused { IfErr result (λ error. IsHalt len source.entry.bytes.now error) }
 {
-    // Haskell has some four bytes a lexeme, and seldom fewer.
-    let mut list = Vec::with_capacity(alloc, len / 4).map_err(LexError::Memory)?;
-    let mut left = source;
-    loop {
-        let (trivia, rest) = split(left, trivia_len(left.characters));
-        if rest.characters.is_empty() {
-            let tail = Text::from_slice(alloc, trivia).map_err(LexError::Memory)?;
-            return Ok(Items {
-                list: Seq { list },
-                tail,
-            });
-        }
-        let Some(taken) = lexeme_at(rest.characters) else {
-            return Err(cause_at(rest.characters, len - rest.bytes.len()));
-        };
-        let (text, behind) = split(rest, taken.len);
-        push_item(alloc, &mut list, trivia, taken.class, text).map_err(LexError::Memory)?;
-        left = behind;
-    }
+    let spans = spans(alloc, len, source.characters)?;
+    items_at(alloc, source, spans.as_slice()).map_err(LexError::Memory)
 }
 
-/// Puts an item behind the others.
-fn push_item(
-    alloc: Global,
-    list: &mut Vec<Item>,
-    trivia: &[u8],
-    class: Class,
-    text: &[u8],
-) -> Result<(), AllocError>
-    ensures { IfOk result (λ u. list.new.items ≡ list.old.items ++ (record { trivia = trivia.now; lexeme = record { class = class; text = text.now } } ∷ [])) }
+/// Where the items of the characters stand, with which a text of this many bytes ends.
+fn spans(alloc: Global, len: usize, characters: &[char]) -> Result<Vec<Span>, LexError>
+    requires scalars { all_scalars characters.now ≡ true }
+    requires len { length (encode_utf8_all characters.now) ≤ len }
+    ensures read { IfOk result (λ spans. Lexes class_of is_piece bars (encode_utf8_all characters.now) (items_at spans.items characters.now) (encode_utf8_all (behind_all spans.items characters.now))) }
+    ensures within { IfOk result (λ spans. AreWithin spans.items characters.now) }
+    ensures refused { IfErr result (λ error. IsHalt len (encode_utf8_all characters.now) error) }
 {
-    let lexeme = Lexeme {
-        class,
-        text: Text::from_slice(alloc, text)?,
-    };
-    let trivia = Text::from_slice(alloc, trivia)?;
-    list.push(Item { trivia, lexeme })?;
-    Ok(())
+    // Haskell has some four bytes a lexeme, and seldom fewer.
+    let mut spans = Vec::with_capacity(alloc, len / 4).map_err(LexError::Memory)?;
+    let mut left = characters;
+    loop {
+        let trivia = trivia_len(left);
+        let (_, rest) = left.split_at(trivia);
+        if rest.is_empty() {
+            return Ok(spans);
+        }
+        let Some(taken) = lexeme_at(rest) else {
+            return Err(cause_at(rest, len - utf8_len(rest)));
+        };
+        spans
+            .push(Span { trivia, taken })
+            .map_err(|failed| LexError::Memory(failed.into()))?;
+        (_, left) = rest.split_at(taken.len);
+    }
 }
 
 /// The lexeme that begins the text, if one does.

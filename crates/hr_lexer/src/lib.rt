@@ -10,6 +10,7 @@ mod names;
 mod numbers;
 mod quotes;
 mod source;
+mod spans;
 mod tables;
 mod taken;
 

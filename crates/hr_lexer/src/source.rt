@@ -23,7 +23,7 @@ pub fn split(source: Source, count: usize) -> (&[u8], Source)
 }
 
 /// How many bytes spell the characters.
-fn utf8_len(characters: &[char]) -> usize
+pub fn utf8_len(characters: &[char]) -> usize
     requires { length (encode_utf8_all characters.now) < 2 ^ 64 }
     ensures { result ≡ length (encode_utf8_all characters.now) }
 {

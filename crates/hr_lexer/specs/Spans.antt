@@ -1,0 +1,31 @@
+-- The items that stand at given places of a text, by the numbers of their characters.
+use Rattle.std.specs.Prelude.{ℕ, ◌≤◌, List, [], ◌∷◌, length, take, drop, ⊤}
+use Rattle.std.specs.Str.{encode_utf8_all}
+use Rattle.hr_base.specs.declared.lexeme.Item.{Item}
+use Rattle.hr_lexer.specs.declared.spans.Span.{Span}
+
+-- the item that begins these characters
+abbrev pub item_at : Span → List ℕ → Item
+item_at span text = record {
+  trivia = encode_utf8_all (take span.trivia text);
+  lexeme = record { class = span.taken.class; text = encode_utf8_all (take span.taken.len (drop span.trivia text)) };
+}
+
+-- what is behind it
+abbrev pub behind : Span → List ℕ → List ℕ
+behind span text = drop span.taken.len (drop span.trivia text)
+
+-- the items that stand one behind the other
+abbrev pub items_at : List Span → List ℕ → List Item
+items_at [] text = []
+items_at (span ∷ spans) text = item_at span text ∷ items_at spans (behind span text)
+
+-- what is behind all of them
+abbrev pub behind_all : List Span → List ℕ → List ℕ
+behind_all [] text = text
+behind_all (span ∷ spans) text = behind_all spans (behind span text)
+
+-- all of them stand within the characters
+abbrev pub AreWithin : List Span → List ℕ → Type 0
+AreWithin [] text = ⊤
+AreWithin (span ∷ spans) text = (span.trivia ≤ length text) × (span.taken.len ≤ length (drop span.trivia text)) × AreWithin spans (behind span text)
