@@ -4,9 +4,10 @@ use Rattle.std.specs.FinMap.{get}
 use Rattle.hr_shelf.specs.Outside.{Files, HoldsMore, Reads, Rose, ToldOr}
 use Rattle.hr_plain.specs.Renaming.{module_limit}
 use Rattle.hare.specs.declared.status.Status.{Status}
-use Rattle.hare.specs.Runs.{Outside, AreGood, Ends, Holds, IsDue, IsRead, Answers}
+use Rattle.hare.specs.Runs.{Outside, AreGood, Ends, Holds, IsDue, IsRead, Answers, IsAnswered}
 use Rattle.hare.specs.Words.{Renaming, renaming_of}
 use Rattle.hare.proofs.Causes.{one_due}
+use Rattle.hare.proofs.SomeDue.{some_due}
 
 -- a report is told only of what has one
 is_told : (text : List ℕ) (line : Option (List ℕ)) → Some text ≡ line → line ≢ None
@@ -52,5 +53,12 @@ module _ (words : List (List ℕ)) (before after : Outside) (files : Files) (due
       let rose = Rose before.read_faults after.read_faults in
       due_is Status.OverLimit (renaming, good, subst (λ t. ToldOr t (λ known. HoldsMore known renaming.file module_limit) rose) told more)
 
-pub answers : (words : List (List ℕ)) (before after : Outside) (files : Files) (due result : Status) → before.told ≡ Some files → IsDue words files due → Ends words before after result → Answers before after due result
-answers words before after files due result told is ends = answers_by words before after files due told is result ends
+pub answered : (words : List (List ℕ)) (before after : Outside) (files : Files) (result : Status) → before.told ≡ Some files → Ends words before after result → IsAnswered words files before after result
+answered words before after files result told ends =
+    let due = some_due words files in
+    record {
+      due = due.0;
+      is = due.1;
+      only = λ other is. one_due words files other due.0 is due.1;
+      answers = answers_by words before after files due.0 told due.1 result ends;
+    }

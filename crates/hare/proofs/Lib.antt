@@ -4,3 +4,4 @@ mod Ends
 mod Numbers
 mod OneTarget
 mod OneTree
+mod SomeDue

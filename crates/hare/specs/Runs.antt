@@ -122,6 +122,13 @@ Answers before after due status =
     ⊎ (((status ≡ WriteFault) × (due ≡ Done) × Rose before.replace_faults after.replace_faults)
     ⊎ (((status ≡ ReportFault) × Rose before.write_faults after.write_faults) ⊎ (status ≡ Memory))))
 
+-- words and told files lead to a status, and to no other one, and so the run ended
+pub record IsAnswered (words : List (List ℕ)) (files : Files) (before after : Outside) (status : Status) : Type 0 where
+  pub due : Status
+  pub is : IsDue words files due
+  pub only : (other : Status) → IsDue words files other → other ≡ due
+  pub answers : Answers before after due status
+
 -- a piece was written and the status stands, or the sink refused it
 abbrev pub Reported : Option (List ℕ) → Option (List ℕ) → ℕ → ℕ → List ℕ → Status → Status → Type 0
 Reported before now faults faults_now text status result =

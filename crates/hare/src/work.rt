@@ -4,7 +4,7 @@ ghost use Rattle.hr_shelf.specs.Outside.{Files, IsReady, Reads};
 ghost use Rattle.hr_plain.specs.Renaming.{module_limit};
 ghost use Rattle.hr_plain.specs.Form.{IsPlain};
 ghost use Rattle.hare.specs.declared.status.Status.{Status};
-ghost use Rattle.hare.specs.Runs.{Answers, AreGood, Ends, IsDue, IsStep, Reported, outside};
+ghost use Rattle.hare.specs.Runs.{AreGood, Ends, IsAnswered, IsStep, Reported, outside};
 ghost use Rattle.hare.specs.Shown.{shown};
 ghost use Rattle.hare.specs.Steps.{IsOutcome};
 
@@ -26,7 +26,7 @@ pub fn refactor<S: Shelf, K: Sink>(
     out: &mut K,
 ) -> Status
     ensures only { Ends (map string_bytes words.now) (outside (S.told shelf.old) (S.read_faults shelf.old) (S.replace_faults shelf.old) (K.written out.old) (K.faults out.old)) (outside (S.told shelf.new) (S.read_faults shelf.new) (S.replace_faults shelf.new) (K.written out.new) (K.faults out.new)) result }
-    ensures due { (files : Files) (due : Status) → S.told shelf.old ≡ Some files → IsDue (map string_bytes words.now) files due → Answers (outside (S.told shelf.old) (S.read_faults shelf.old) (S.replace_faults shelf.old) (K.written out.old) (K.faults out.old)) (outside (S.told shelf.new) (S.read_faults shelf.new) (S.replace_faults shelf.new) (K.written out.new) (K.faults out.new)) due result }
+    ensures due { (files : Files) → S.told shelf.old ≡ Some files → IsAnswered (map string_bytes words.now) files (outside (S.told shelf.old) (S.read_faults shelf.old) (S.replace_faults shelf.old) (K.written out.old) (K.faults out.old)) (outside (S.told shelf.new) (S.read_faults shelf.new) (S.replace_faults shelf.new) (K.written out.new) (K.faults out.new)) result }
 {
     carried_out(alloc, words, shelf, out)
 }

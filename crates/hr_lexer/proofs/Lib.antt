@@ -1,6 +1,7 @@
 pub mod Agreeing
 pub mod Bytes
 pub mod ClosedRead
+pub mod Decided
 pub mod EscapesRead
 pub mod Exactly
 pub mod FloatsRead
@@ -25,6 +26,7 @@ pub mod Splits
 pub mod Statements
 pub mod Steps
 pub mod StringRead
+pub mod Total
 pub mod TriviaRead
 pub mod Whence
 pub mod Whole

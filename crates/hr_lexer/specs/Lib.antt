@@ -1,3 +1,4 @@
+pub mod Laws
 pub mod LexemeReader
 pub mod Marks
 pub mod NameReader

@@ -5,6 +5,7 @@ mod apart;
 mod comments;
 mod error;
 mod escapes;
+mod laws;
 mod lexing;
 mod names;
 mod numbers;
@@ -16,4 +17,5 @@ mod taken;
 
 pub use apart::{are_apart, is_varid};
 pub use error::LexError;
+pub use laws::read_or_refused;
 pub use lexing::lex;

@@ -26,4 +26,5 @@ mod SameBinders
 mod SameForm
 mod TargetTree
 mod Together
+pub mod Total
 mod Turned

@@ -1,5 +1,6 @@
 pub mod Binders
 pub mod Form
+pub mod Laws
 pub mod Reading
 pub mod Refusals
 pub mod Renaming

@@ -5,6 +5,7 @@
 mod binding;
 mod equations;
 mod expressions;
+mod laws;
 mod lexemes;
 mod loading;
 mod renaming;
@@ -12,6 +13,7 @@ mod scoping;
 mod trivia;
 mod writing;
 
+pub use laws::{plain_or_refused, renamed_or_refused};
 pub use loading::{LoadError, load};
 pub use renaming::{MODULE_LIMIT, Sought, Why, rename};
 
