@@ -7,7 +7,6 @@ use Rattle.hr_lexer.specs.declared.error.LexError.{LexError}
 use Rattle.hr_lexer.specs.Refusals.{IsCause}
 use Rattle.hr_plain_tree.specs.declared.tree.Module.{Module}
 use Rattle.hr_plain.specs.declared.loading.LoadError.{LoadError}
-use Rattle.hr_plain.specs.declared.renaming.Sought.{Sought}
 use Rattle.hr_plain.specs.declared.renaming.Why.{Why}
 use Rattle.hr_plain.specs.Form.{IsPlain}
 use Rattle.hr_plain.specs.Refusals.{IsLoadRefusal}

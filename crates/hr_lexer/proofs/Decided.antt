@@ -1,14 +1,12 @@
 -- Every text is a variable identifier or not, and two texts are apart or not.
-use Rattle.std.proofs.Common.{◌≡◌, ℕ, Bool, true, false, ◌&&◌, ◌⊎◌, inl, inr, List, [], ◌∷◌, ◌++◌, Option, Some, None, refl, sym, ap, ◌∙◌, true≢false}
+use Rattle.std.proofs.Common.{◌≡◌, ℕ, Bool, true, false, ◌&&◌, ◌⊎◌, inl, inr, List, [], ◌∷◌, ◌++◌, Option, Some, None, refl, sym, ap, true≢false}
 use Rattle.std.proofs.lemmas.Slice.Eq.{bytes_eq-Decides}
 use Rattle.std.specs.Bool.{Decides}
 use Rattle.std.specs.Str.{bytes_eq}
 use Rattle.hr_base.specs.declared.lexeme.Class.{Class}
 use Rattle.hr_base.specs.declared.lexeme.Item.{Item}
-use Rattle.hr_base.specs.declared.lexeme.Items.{Items}
 use Rattle.hr_rules.specs.Lexemes.{class_of}
 use Rattle.hr_lexer.specs.Words.{AreApart, AreLexemes, IsVarId, Tells}
-use Rattle.hr_lexer.proofs.Bytes.{both, both_left, both_right}
 use Rattle.hr_lexer.proofs.Exactly.{no_items}
 use Rattle.hr_lexer.proofs.SideBySide.{never_apart, tells_apart}
 use Rattle.hr_lexer.proofs.Total.{ItemsOrStop, items_or_stop}

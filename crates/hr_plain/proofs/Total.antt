@@ -2,7 +2,6 @@
 use Rattle.std.proofs.Common.{◌≡◌, ◌≢◌, ℕ, ◌<◌, ◌≤◌, Bool, true, false, ◌⊎◌, inl, inr, List, [], ◌∷◌, length, Option, Some, None, slice_get, position, codes, refl, sym, ap, ◌∙◌, true≢false, arith}
 use Rattle.std.proofs.lemmas.Bool.Decides.{leb_tells}
 use Rattle.std.proofs.lemmas.Slice.Eq.{bytes_eq-Decides}
-use Rattle.std.specs.Bool.{Decides}
 use Rattle.std.specs.Str.{bytes_eq}
 use Rattle.hr_base.specs.declared.place.Pos.{Pos}
 use Rattle.hr_base.specs.declared.lexeme.Item.{Item}
@@ -17,7 +16,7 @@ use Rattle.hr_lexer.proofs.Decided.{apart_or_not, varid_or_not}
 use Rattle.hr_lexer.proofs.Total.{read_or_refused_lem}
 use Rattle.hr_plain_tree.specs.declared.tree.Equation.{Equation}
 use Rattle.hr_plain_tree.specs.declared.tree.Module.{Module}
-use Rattle.hr_plain_tree.specs.Yields.{items_of, module_items}
+use Rattle.hr_plain_tree.specs.Yields.{module_items}
 use Rattle.hr_plain.specs.declared.loading.LoadError.{LoadError}
 use Rattle.hr_plain.specs.declared.renaming.Sought.{Sought}
 use Rattle.hr_plain.specs.declared.renaming.Why.{Why}
@@ -25,7 +24,7 @@ use Rattle.hr_plain.specs.Form.{IsPlain}
 use Rattle.hr_plain.specs.Laws.{PlainOrRefused, RenamedOrRefused}
 use Rattle.hr_plain.specs.Reading.{equations_of}
 use Rattle.hr_plain.specs.Refusals.{IsLoadRefusal}
-use Rattle.hr_plain.specs.Renaming.{IsNameAt, IsRenamed, IsWhy, MayRename, NoName, Respelled, is_spelled, module_limit, number_of, owner_at}
+use Rattle.hr_plain.specs.Renaming.{IsNameAt, IsRenamed, IsWhy, NoName, Respelled, is_spelled, module_limit, number_of, owner_at}
 use Rattle.hr_plain.specs.Scoping.{is_variable, occurrences_of}
 use Rattle.hr_plain.specs.Sets.{are_scoped}
 use Rattle.hr_plain.specs.Target.{AllRespell, IsParted, Respells}

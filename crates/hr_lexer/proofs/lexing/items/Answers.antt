@@ -1,13 +1,12 @@
-use Rattle.std.proofs.Common.{rules, ◌≡◌, ◌<◌, ◌≤◌, ◌++◌, ◌∷◌, [], true, length, take, drop, IfErr, IfOk, IfSome, ℕ, ◌+◌, Bool, false, List, sym, ap, subst, ◌∙◌, refl, arith}
-use Rattle.std.specs.Str.{all_scalars, encode_utf8_all, chars, IsUtf8}
+use Rattle.std.proofs.Common.{rules, ◌≡◌, take, drop, ℕ, List, sym, ap, subst, ◌∙◌}
+use Rattle.std.specs.Str.{all_scalars, chars, IsUtf8}
 use Rattle.std.proofs.lemmas.Str.{scalars-chars, encodes-chars, encodes_same}
 use lib.Utf8.{scalars, encodes}
 use Rattle.hr_base.specs.declared.lexeme.Item.{Item}
 use Rattle.hr_base.specs.declared.lexeme.Items.{Items}
 use Rattle.hr_rules.specs.Lexemes.{class_of, is_piece, bars, led_by, mark_len, LexesText}
 use Rattle.hr_rules.specs.Lexing.{Lexes}
-use Rattle.hr_lexer.specs.Refusals.{cause_of, IsHalt, IsStop, OrMemory}
-use Rattle.hr_lexer.specs.Marks.{mark_count}
+use Rattle.hr_lexer.specs.Refusals.{IsStop, OrMemory}
 use Rattle.hr_lexer.proofs.Bytes.{scalars_drop}
 use Rattle.hr_lexer.proofs.Marks.{mark_front, mark_back}
 use Rattle.hr_lexer.proofs.Whence.{refused}
