@@ -29,16 +29,17 @@ fn edges(tree: &Graded) -> (u32, u32) {
     (lefts, rights)
 }
 
+// 524,287 operands in a row, as many as a text of 1,048,576 bytes can hold
 #[test]
-fn ten_thousand_operators_have_a_tree(rt: HostRuntime) -> Result<(), Fail> {
+fn a_text_full_of_operators_has_a_tree(rt: HostRuntime) -> Result<(), Fail> {
     for (pair, root, lefts, rights) in [
-        ("6lx6lx", 19999, 10000, 1),
-        ("5rx5rx", 1, 1, 10000),
-        ("6lx7lx", 19997, 5000, 2),
-        ("7lx6lx", 19999, 5001, 1),
-        ("6rx7lx", 1, 1, 5001),
+        ("6lx6lx", 1_048_571, 524_286, 1),
+        ("5rx5rx", 1, 1, 524_286),
+        ("6lx7lx", 1_048_569, 262_143, 2),
+        ("7lx6lx", 1_048_571, 262_144, 1),
+        ("6rx7lx", 1, 1, 262_144),
     ] {
-        let text = text_of(rt.alloc(), 5000, pair)?;
+        let text = text_of(rt.alloc(), 262_143, pair)?;
         let seq = sequence_of(rt.alloc(), text.as_bytes(), Some(root))?;
         assert!(rt; seq.is_sequence());
         match resolve(rt.alloc(), &seq) {
