@@ -113,8 +113,8 @@ IsDue words files ReportFault = ⊥
 IsDue words files Memory = ⊥
 IsDue words files OverLimit = (renaming : Renaming) × AreGood words renaming × HoldsMore files renaming.file module_limit
 
--- the run ended with the status that was due, or a read, a replace or a write failed, or there was no memory; words
--- that are no command read nothing
+-- the run ended with the status that was due, or a read, a replace or a write failed, or there was no memory; no
+-- read fault answers words that are no command
 abbrev pub Answers : Outside → Outside → Status → Status → Type 0
 Answers before after due status =
     (status ≡ due)

@@ -20,9 +20,10 @@ pub enum Graded {
 }
 
 impl Graded {
-    /// Frees a tree whose operators have numbers between these two. It goes on with the operand that
-    /// has more room for operators, and calls itself for the other one: of the tree of a sequence each
-    /// call has at most half of the operators that its caller had, however deep the tree is.
+    /// Frees a tree whose operators have numbers between `from` and `to`. It goes on with the operand
+    /// for which these leave more room, and calls itself for the other one: of the tree of a sequence
+    /// each call has at most half of the room that its caller had, so no more than 33 calls are open
+    /// at once, however deep the tree is.
     fn free(mut tree: Graded, mut from: u32, mut to: u32) {
         loop {
             match tree {
