@@ -1,5 +1,0 @@
-use Rattle.hr_agree.proofs.Agreeing.{relation_is_promise_lem}
-use Rattle.hr_agree.proofs.laws.relation_is_promise.Goals as goal
-
-pub returns : goal.returns
-returns c = relation_is_promise_lem

@@ -1,5 +1,0 @@
-use Rattle.hr_derives.proofs.GrammaticalModules.{levels_are_lem}
-use Rattle.hr_derives.proofs.laws.levels_are.Goals as goal
-
-pub returns : goal.returns
-returns c = levels_are_lem

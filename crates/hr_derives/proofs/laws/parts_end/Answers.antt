@@ -1,5 +1,0 @@
-use Rattle.hr_derives.proofs.Endings.{parts_end_lem}
-use Rattle.hr_derives.proofs.laws.parts_end.Goals as goal
-
-pub returns : goal.returns
-returns c = parts_end_lem

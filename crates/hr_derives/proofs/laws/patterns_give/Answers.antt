@@ -1,5 +1,0 @@
-use Rattle.hr_derives.proofs.Patterns.{patterns_give_lem}
-use Rattle.hr_derives.proofs.laws.patterns_give.Goals as goal
-
-pub returns : goal.returns
-returns c = patterns_give_lem

@@ -1,5 +1,0 @@
-use Rattle.hr_derives.proofs.Stops.{pieces_stop_lem}
-use Rattle.hr_derives.proofs.laws.pieces_stop.Goals as goal
-
-pub returns : goal.returns
-returns c = pieces_stop_lem

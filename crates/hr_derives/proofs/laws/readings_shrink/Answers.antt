@@ -1,5 +1,0 @@
-use Rattle.hr_derives.proofs.Shrinks.{readings_shrink_lem}
-use Rattle.hr_derives.proofs.laws.readings_shrink.Goals as goal
-
-pub returns : goal.returns
-returns c = readings_shrink_lem

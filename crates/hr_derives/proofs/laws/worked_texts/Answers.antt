@@ -1,5 +1,0 @@
-use Rattle.hr_derives.proofs.Worked.{worked_texts_lem}
-use Rattle.hr_derives.proofs.laws.worked_texts.Goals as goal
-
-pub returns : goal.returns
-returns c = worked_texts_lem

@@ -1,5 +1,0 @@
-use Rattle.hr_edges.proofs.PartLasts.{alternatives_end_lem}
-use Rattle.hr_edges.proofs.laws.alternatives_end.Goals as goal
-
-pub returns : goal.returns
-returns c = alternatives_end_lem

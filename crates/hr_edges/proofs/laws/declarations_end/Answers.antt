@@ -1,5 +1,0 @@
-use Rattle.hr_edges.proofs.PartLasts.{declarations_end_lem}
-use Rattle.hr_edges.proofs.laws.declarations_end.Goals as goal
-
-pub returns : goal.returns
-returns c = declarations_end_lem

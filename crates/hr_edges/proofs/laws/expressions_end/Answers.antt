@@ -1,5 +1,0 @@
-use Rattle.hr_edges.proofs.PartLasts.{expressions_end_lem}
-use Rattle.hr_edges.proofs.laws.expressions_end.Goals as goal
-
-pub returns : goal.returns
-returns c = expressions_end_lem

@@ -1,5 +1,0 @@
-use Rattle.hr_edges.proofs.Lasts.{patterns_end_lem}
-use Rattle.hr_edges.proofs.laws.patterns_end.Goals as goal
-
-pub returns : goal.returns
-returns c = patterns_end_lem

@@ -1,5 +1,0 @@
-use Rattle.hr_edges.proofs.Lasts.{types_end_lem}
-use Rattle.hr_edges.proofs.laws.types_end.Goals as goal
-
-pub returns : goal.returns
-returns c = types_end_lem

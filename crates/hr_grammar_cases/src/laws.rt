@@ -1,0 +1,68 @@
+//! Laws of the relation.
+ghost use Rattle.hr_grammar_cases.specs.Laws.{ImportsGive, LevelsAre, LevelsGive, ModulesAre, ModulesGive, ModulesStand, ModulesYield, PartsEnd, PatternsGive, PiecesStop, ReadingsShrink, TypesGive};
+ghost use Rattle.hr_grammar_cases.specs.Worked.{WorkedTexts};
+
+/// A type that is read takes its own items.
+pub fn types_give()
+    ensures { TypesGive }
+{}
+
+/// A pattern that is read takes its own items.
+pub fn patterns_give()
+    ensures { PatternsGive }
+{}
+
+/// Imports and a module's header, where they are read, take their own items.
+pub fn imports_give()
+    ensures { ImportsGive }
+{}
+
+/// Each tree that is read takes its own items, blocks and their parts too.
+pub fn levels_give()
+    ensures { LevelsGive }
+{}
+
+/// The items that are read as a module are those that it yields.
+pub fn modules_give()
+    ensures { ModulesGive }
+{}
+
+/// Each tree that is read is a tree of the grammar, on the same level.
+pub fn levels_are()
+    ensures { LevelsAre }
+{}
+
+/// What is read as a module is yielded by a tree of the grammar.
+pub fn modules_are()
+    ensures { ModulesAre }
+{}
+
+/// What is read of types, patterns and expressions is a lexeme or more.
+pub fn readings_shrink()
+    ensures { ReadingsShrink }
+{}
+
+/// Where the pieces of a block go on or end behind a part, nothing can go on in the part.
+pub fn pieces_stop()
+    ensures { PiecesStop }
+{}
+
+/// No expression, declaration or alternative ends as an empty part does.
+pub fn parts_end()
+    ensures { PartsEnd }
+{}
+
+/// The items of a worked text are read as its tree: an annotated expression in a block that `in` ends.
+pub fn worked_texts()
+    ensures { WorkedTexts }
+{}
+
+/// The blocks of what is read as a module stand as the layout rule says.
+pub fn modules_stand()
+    ensures { ModulesStand }
+{}
+
+/// What is read as a module within the limit on nesting is yielded by a tree of the grammar whose blocks stand so.
+pub fn modules_yield()
+    ensures { ModulesYield }
+{}

@@ -1,0 +1,5 @@
+use Rattle.hr_grammar_finder_laws.proofs.Modules.{found_are_derived_lem}
+use Rattle.hr_grammar_finder_laws.proofs.laws.found_are_derived.Goals as goal
+
+pub returns : goal.returns
+returns c = found_are_derived_lem

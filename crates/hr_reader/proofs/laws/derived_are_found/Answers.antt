@@ -1,5 +1,0 @@
-use Rattle.hr_reader.proofs.Modules.{derived_are_found_lem}
-use Rattle.hr_reader.proofs.laws.derived_are_found.Goals as goal
-
-pub returns : goal.returns
-returns c = derived_are_found_lem

@@ -1,5 +1,0 @@
-use Rattle.hr_reader.proofs.Modules.{found_are_derived_lem}
-use Rattle.hr_reader.proofs.laws.found_are_derived.Goals as goal
-
-pub returns : goal.returns
-returns c = found_are_derived_lem

@@ -1,5 +1,0 @@
-use Rattle.hr_reader.proofs.Short.{short_texts_lem}
-use Rattle.hr_reader.proofs.laws.short_texts_have_one_tree.Goals as goal
-
-pub returns : goal.returns
-returns c = short_texts_lem
