@@ -1,6 +1,7 @@
 -- The causes of statuses exclude one another: words and files lead to one status.
 use Rattle.std.proofs.Common.{◌≡◌, ◌≢◌, ◌⊎◌, inl, inr, ◌≤◌, ◌<◌, ℕ, List, length, Option, Some, None, true≢false, arith, refl, sym, ap, subst, ◌∙◌, slice_get}
 use Rattle.std.specs.FinMap.{get}
+use Rattle.hr_base.specs.Limits.{module_limit}
 use Rattle.hr_base.specs.declared.place.Pos.{Pos}
 use Rattle.hr_base.specs.declared.lexeme.Item.{Item}
 use Rattle.hr_base.specs.declared.lexeme.Items.{Items}
@@ -15,7 +16,7 @@ use Rattle.hr_plain.specs.declared.renaming.Sought.{Sought}
 use Rattle.hr_plain.specs.declared.renaming.Why.{Why}
 use Rattle.hr_plain.specs.Form.{IsPlain}
 use Rattle.hr_plain.specs.Refusals.{IsLoadRefusal}
-use Rattle.hr_plain.specs.Renaming.{IsNameAt, IsRenamed, IsWhy, MayRename, Respelled, module_limit, owner_at}
+use Rattle.hr_plain.specs.Renaming.{IsNameAt, IsRenamed, IsWhy, MayRename, Respelled, owner_at}
 use Rattle.hr_plain.specs.Scoping.{occurrences_of}
 use Rattle.hare.specs.declared.status.Status.{Status}
 use Rattle.hare.specs.Report as report

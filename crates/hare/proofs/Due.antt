@@ -1,8 +1,8 @@
 -- The status of a run is the one that words and files lead to, unless something failed.
 use Rattle.std.proofs.Common.{◌≡◌, ◌≢◌, ◌⊎◌, inl, inr, ℕ, List, Option, Some, None, ◌∙◌, refl, sym, subst}
 use Rattle.std.specs.FinMap.{get}
+use Rattle.hr_base.specs.Limits.{module_limit}
 use Rattle.hr_shelf.specs.Outside.{Files, HoldsMore, Reads, Rose, ToldOr}
-use Rattle.hr_plain.specs.Renaming.{module_limit}
 use Rattle.hare.specs.declared.status.Status.{Status}
 use Rattle.hare.specs.Runs.{Outside, AreGood, Ends, Holds, IsDue, IsRead, Answers, IsAnswered}
 use Rattle.hare.specs.Words.{Renaming, renaming_of}

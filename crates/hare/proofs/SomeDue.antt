@@ -2,6 +2,7 @@
 use Rattle.std.proofs.Common.{◌≡◌, ◌≢◌, ◌⊎◌, inl, inr, ℕ, ◌≤◌, ◌<◌, Bool, true, false, List, length, Option, Some, None, refl}
 use Rattle.std.proofs.lemmas.Bool.Decides.{leb_tells}
 use Rattle.std.specs.FinMap.{get}
+use Rattle.hr_base.specs.Limits.{module_limit}
 use Rattle.hr_shelf.specs.Outside.{Files}
 use Rattle.hr_lexer.specs.declared.error.LexError.{LexError}
 use Rattle.hr_lexer.specs.Refusals.{IsCause}
@@ -10,7 +11,7 @@ use Rattle.hr_plain.specs.declared.loading.LoadError.{LoadError}
 use Rattle.hr_plain.specs.declared.renaming.Why.{Why}
 use Rattle.hr_plain.specs.Form.{IsPlain}
 use Rattle.hr_plain.specs.Refusals.{IsLoadRefusal}
-use Rattle.hr_plain.specs.Renaming.{IsRenamed, IsWhy, module_limit, number_of}
+use Rattle.hr_plain.specs.Renaming.{IsRenamed, IsWhy, number_of}
 use Rattle.hr_plain.proofs.Total.{plain_or_refused_lem, renamed_or_refused_lem}
 use Rattle.hare.specs.declared.status.Status.{Status}
 use Rattle.hare.specs.Report as report

@@ -1,13 +1,14 @@
 -- How a run ends: what each status says of the words, of the files and of the report.
 use Rattle.std.specs.Prelude.{◌≡◌, ◌≢◌, ◌≤◌, ℕ, List, length, Option, Some, None, ◌⊎◌}
 use Rattle.std.specs.FinMap.{get}
+use Rattle.hr_base.specs.Limits.{module_limit}
 use Rattle.hr_shelf.specs.Outside.{Files, HoldsMore, Reads, Rose, ToldOr, replaced, appended, AppendsPrefix}
 use Rattle.hr_plain_tree.specs.declared.tree.Module.{Module}
 use Rattle.hr_plain.specs.declared.loading.LoadError.{LoadError}
 use Rattle.hr_plain.specs.declared.renaming.Why.{Why}
 use Rattle.hr_plain.specs.Form.{IsPlain}
 use Rattle.hr_plain.specs.Refusals.{IsLoadRefusal}
-use Rattle.hr_plain.specs.Renaming.{IsRenamed, IsWhy, module_limit}
+use Rattle.hr_plain.specs.Renaming.{IsRenamed, IsWhy}
 use Rattle.hare.specs.declared.status.Status.{Status}
 use Rattle.hare.specs.declared.status.Status.TheVariants.{Done, StepRefused, BadWords, BadScript, NotAccepted, ReadFault, WriteFault, ReportFault, Memory, OverLimit}
 use Rattle.hare.specs.Words.{Renaming, renaming_of}

@@ -1,7 +1,7 @@
 ghost use Rattle.std.specs.Prelude.{◌≡◌, ◌≤◌, ℕ, List, length, map, MatchResult, Some};
 ghost use Rattle.std.specs.String.{string_bytes};
+ghost use Rattle.hr_base.specs.Limits.{module_limit};
 ghost use Rattle.hr_shelf.specs.Outside.{Files, IsReady, Reads};
-ghost use Rattle.hr_plain.specs.Renaming.{module_limit};
 ghost use Rattle.hr_plain.specs.Form.{IsPlain};
 ghost use Rattle.hare.specs.declared.status.Status.{Status};
 ghost use Rattle.hare.specs.Runs.{AreGood, Ends, IsAnswered, IsStep, Reported, outside};
@@ -11,8 +11,8 @@ ghost use Rattle.hare.specs.Steps.{IsOutcome};
 use crate::report;
 use crate::status::Status;
 use crate::words::{Renaming, renaming_of};
-use hr_base::Text;
-use hr_plain::{LoadError, MODULE_LIMIT, Why, load, rename};
+use hr_base::{MODULE_LIMIT, Text};
+use hr_plain::{LoadError, Why, load, rename};
 use hr_plain_tree::Module;
 use hr_shelf::{ReadError, Shelf, Sink};
 use std::alloc::{AllocError, Global};
@@ -117,7 +117,7 @@ fn renamed(alloc: Global, command: Renaming<'_>, bytes: &[u8], tree: &Module) ->
     }
 }
 
-/// Replaces the file and reports. Nothing here takes memory once the reports are made.
+/// Replaces the file and reports. Nothing here takes memory once the bytes and the reports are made.
 fn finish<S: Shelf, K: Sink>(
     alloc: Global,
     command: Renaming<'_>,
@@ -132,13 +132,15 @@ fn finish<S: Shelf, K: Sink>(
     requires step { IsStep (shown command) bytes.now new }
     ensures { (words : List (List ℕ)) (reads : ℕ) → AreGood words (shown command.entry) → Ends words (outside (S.told shelf.old) reads (S.replace_faults shelf.old) (K.written out.old) (K.faults out.old)) (outside (S.told shelf.new) (S.read_faults shelf.new) (S.replace_faults shelf.new) (K.written out.new) (K.faults out.new)) result }
 {
+    let Ok(text) = new.to_vec(alloc) else {
+        return Status::Memory;
+    };
     let Ok(done) = report::done(alloc, command) else {
         return Status::Memory;
     };
     let Ok(fault) = report::write_fault(alloc, command) else {
         return Status::Memory;
     };
-    let Text { bytes: text } = new;
     match shelf.replace(command.file, text) {
         Ok(()) => tell(out, Ok(done), Status::Done),
         Err(_) => tell(out, Ok(fault), Status::WriteFault),

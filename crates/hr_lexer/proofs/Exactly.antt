@@ -9,6 +9,7 @@ use Rattle.std.specs.Option.{is_some}
 use Rattle.std.specs.Prelude.{nat_eq}
 use Rattle.std.specs.Str.{chars, is_utf8, IsUtf8, IsValidUpTo}
 use Rattle.std.specs.declared.alloc.AllocError.{AllocError}
+use Rattle.hr_base.specs.Limits.{module_limit}
 use lib.Utf8.{encode}
 use Rattle.hr_base.specs.declared.lexeme.Class.{Class}
 use Rattle.hr_base.specs.declared.lexeme.Item.{Item}
@@ -24,7 +25,7 @@ use Rattle.hr_rules.proofs.Apart.{piece_text, rules_keep_apart}
 use Rattle.hr_rules.proofs.Reading.{one_reading_lem}
 use Rattle.hr_rules.proofs.Stops.{one_stop_lem, stopped_has_none_lem}
 use Rattle.hr_lexer.specs.declared.error.LexError.{LexError}
-use Rattle.hr_lexer.specs.Refusals.{longest_text, opens_comment, begins_wide, wide_by, Stuck, IsStop, IsCause, OrMemory, Reads, Refuses}
+use Rattle.hr_lexer.specs.Refusals.{opens_comment, begins_wide, wide_by, Stuck, IsStop, IsCause, OrMemory, Reads, Refuses}
 use Rattle.hr_lexer.proofs.Bytes.{both_left, class_are}
 
 -- what has items is UTF-8
@@ -153,7 +154,7 @@ one_stop_cause bytes (LexError.BadLexeme n) (LexError.Memory m) a b = absurd b
 
 -- the same with the bound on its length
 abbrev Cause : List ℕ → LexError → Type 0
-Cause bytes error = ((error ≡ LexError.TooLong) × (longest_text < length bytes)) ⊎ ((length bytes ≤ longest_text) × IsStop bytes error)
+Cause bytes error = ((error ≡ LexError.TooLong) × (module_limit < length bytes)) ⊎ ((length bytes ≤ module_limit) × IsStop bytes error)
 
 cause : (bytes : List ℕ) (error : LexError) → IsCause bytes error → Cause bytes error
 cause bytes LexError.TooLong c = inl (refl, c)
@@ -172,12 +173,12 @@ one_by bytes error other (inr a) (inr b) = one_stop_cause bytes error other a.1 
 pub one_cause : (bytes : List ℕ) (error other : LexError) → IsCause bytes error → IsCause bytes other → error ≡ other
 one_cause bytes error other a b = one_by bytes error other (cause bytes error a) (cause bytes other b)
 
-none_by : (bytes : List ℕ) (error : LexError) (items : Items) → length bytes ≤ longest_text → LexesText bytes items → Cause bytes error → ⊥
+none_by : (bytes : List ℕ) (error : LexError) (items : Items) → length bytes ≤ module_limit → LexesText bytes items → Cause bytes error → ⊥
 none_by bytes error items short lexes (inl a) = omega (arith, a.1)
 none_by bytes error items short lexes (inr a) = no_items bytes error items a.1 lexes
 
 -- a text with items that is not too long is not refused
-pub no_cause : (bytes : List ℕ) (error : LexError) (items : Items) → length bytes ≤ longest_text → LexesText bytes items → ¬ (IsCause bytes error)
+pub no_cause : (bytes : List ℕ) (error : LexError) (items : Items) → length bytes ≤ module_limit → LexesText bytes items → ¬ (IsCause bytes error)
 no_cause bytes error items short lexes c = none_by bytes error items short lexes (cause bytes error c)
 
 or_memory : (P Q : LexError → Type 0) (error : LexError) → (P error → Q error) → OrMemory P error → OrMemory Q error
@@ -198,7 +199,7 @@ but_memory P (LexError.Memory m) f p = absurd (f m refl)
 
 -- a call that reads right, and refuses for a cause, answers so exactly
 module _ (bytes : List ℕ) where
-  pub refuses : (answer : Result Items LexError) → length bytes ≤ longest_text → IfOk answer (λ items. LexesText bytes items) → IfErr answer (OrMemory (IsStop bytes))
+  pub refuses : (answer : Result Items LexError) → length bytes ≤ module_limit → IfOk answer (λ items. LexesText bytes items) → IfErr answer (OrMemory (IsStop bytes))
       → (error : LexError) → IsCause bytes error → Refuses error answer
   refuses (Ok items) short read refused error c = no_cause bytes error items short read c
   refuses (Err found) short read refused error c =

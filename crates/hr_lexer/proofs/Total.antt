@@ -5,6 +5,7 @@ use Rattle.std.proofs.lemmas.List.{take_all}
 use Rattle.std.proofs.lemmas.Str.{encodes-chars, scalars-chars, IsUtf8-from_is_utf8, IsUtf8-nil, is_utf8-from_IsUtf8}
 use Rattle.std.specs.Str.{chars, is_utf8, IsUtf8, IsValidUpTo}
 use Rattle.std.specs.declared.alloc.AllocError.{AllocError}
+use Rattle.hr_base.specs.Limits.{module_limit}
 use lib.Utf8.{scalars, encodes}
 use Rattle.hr_base.specs.declared.lexeme.Item.{Item}
 use Rattle.hr_base.specs.declared.lexeme.Items.{Items}
@@ -19,7 +20,7 @@ use Rattle.hr_lexer.specs.LexemeReader.{lexeme_at}
 use Rattle.hr_lexer.specs.TriviaReader.{trivia_len}
 use Rattle.hr_lexer.specs.Marks.{mark_count}
 use Rattle.hr_lexer.specs.Laws.{ReadOrRefused}
-use Rattle.hr_lexer.specs.Refusals.{cause_by, cause_of, longest_text, IsCause, IsHalt, IsStop}
+use Rattle.hr_lexer.specs.Refusals.{cause_by, cause_of, IsCause, IsHalt, IsStop}
 use Rattle.hr_lexer.proofs.Bytes.{scalars_drop}
 use Rattle.hr_lexer.proofs.Exactly.{but_memory}
 use Rattle.hr_lexer.proofs.Instances.{readers}
@@ -164,7 +165,7 @@ module _ (bytes : List ℕ) where
   pub items_or_stop : ItemsOrStop
   items_or_stop = by_utf8 (is_utf8 bytes) refl
 
-  cause_is : (error : LexError) → length bytes ≤ longest_text → IsStop bytes error → IsCause bytes error
+  cause_is : (error : LexError) → length bytes ≤ module_limit → IsStop bytes error → IsCause bytes error
   cause_is LexError.TooLong short stop = absurd stop
   cause_is (LexError.BadUtf8 place) short stop = (short, stop)
   cause_is (LexError.OpenComment place) short stop = (short, stop)
@@ -173,15 +174,15 @@ module _ (bytes : List ℕ) where
   cause_is (LexError.Memory m) short stop = absurd stop
 
   abbrev ReadOrNot : Type 0
-  ReadOrNot = ((items : Items) × LexesText bytes items × (length bytes ≤ longest_text)) ⊎ ((error : LexError) × IsCause bytes error)
+  ReadOrNot = ((items : Items) × LexesText bytes items × (length bytes ≤ module_limit)) ⊎ ((error : LexError) × IsCause bytes error)
 
-  of_short : length bytes ≤ longest_text → ItemsOrStop → ReadOrNot
+  of_short : length bytes ≤ module_limit → ItemsOrStop → ReadOrNot
   of_short short (inl (items, lexes)) = inl (items, lexes, short)
   of_short short (inr (error, stop)) = inr (error, cause_is error short stop)
 
-  by_length : (test : Bool) → ((test ≡ true) × (length bytes ≤ longest_text)) ⊎ ((test ≡ false) × (longest_text < length bytes)) → ReadOrNot
+  by_length : (test : Bool) → ((test ≡ true) × (length bytes ≤ module_limit)) ⊎ ((test ≡ false) × (module_limit < length bytes)) → ReadOrNot
   by_length test (inl (_, short)) = of_short short items_or_stop
   by_length test (inr (_, long)) = inr (LexError.TooLong, long)
 
 pub read_or_refused_lem : ReadOrRefused
-read_or_refused_lem bytes = by_length bytes _ (leb_tells (length bytes) longest_text)
+read_or_refused_lem bytes = by_length bytes _ (leb_tells (length bytes) module_limit)

@@ -1,6 +1,7 @@
 -- When a text is refused, and where.
 use Rattle.std.specs.Prelude.{◌≡◌, ◌<◌, ◌≤◌, ◌+◌, ℕ, Bool, true, false, if◌then◌else◌, List, [], ◌∷◌, length, drop, ⊤, Result, MatchResult}
 use Rattle.std.specs.Str.{chars, IsUtf8, IsValidUpTo}
+use Rattle.hr_base.specs.Limits.{module_limit}
 use Rattle.hr_base.specs.declared.lexeme.Items.{Items}
 use Rattle.hr_rules.specs.declared.character.Kind.{Kind}
 use Rattle.hr_rules.specs.Letters.{kind_of}
@@ -9,9 +10,6 @@ use Rattle.hr_rules.specs.Numbers.{is_too_wide}
 use Rattle.hr_rules.specs.Lexemes.{class_of, is_piece, bars}
 use Rattle.hr_rules.specs.Stops.{Stops, StopsAt}
 use Rattle.hr_lexer.specs.declared.error.LexError.{LexError}
-
-abbrev pub longest_text : ℕ
-longest_text = 1048576
 
 -- a nested comment begins these characters
 abbrev pub opens_comment : List ℕ → Bool
@@ -43,8 +41,8 @@ IsStop bytes (LexError.Memory _) = ⊥
 
 -- why a text is refused: it is too long; or else it has no items
 abbrev pub IsCause : List ℕ → LexError → Type 0
-IsCause bytes LexError.TooLong = longest_text < length bytes
-IsCause bytes error = (length bytes ≤ longest_text) × IsStop bytes error
+IsCause bytes LexError.TooLong = module_limit < length bytes
+IsCause bytes error = (length bytes ≤ module_limit) × IsStop bytes error
 
 -- want of memory says nothing of the text
 abbrev pub OrMemory : (LexError → Type 0) → LexError → Type 0

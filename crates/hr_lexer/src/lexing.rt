@@ -3,9 +3,10 @@ ghost use Rattle.std.specs.Prelude.{◌≡◌, ◌<◌, ◌≤◌, ◌++◌, tru
 ghost use Rattle.std.specs.Str.{all_scalars, encode_utf8_all};
 ghost use Rattle.hr_rules.specs.Lexemes.{class_of, is_piece, bars, led_by, LexesText};
 ghost use Rattle.hr_rules.specs.Lexing.{Lexes};
+ghost use Rattle.hr_base.specs.Limits.{module_limit};
 ghost use Rattle.hr_base.specs.declared.lexeme.Items.{Items};
 ghost use Rattle.hr_lexer.specs.declared.error.LexError.{LexError};
-ghost use Rattle.hr_lexer.specs.Refusals.{cause_of, longest_text, IsCause, IsHalt, IsStop, OrMemory, Reads, Refuses};
+ghost use Rattle.hr_lexer.specs.Refusals.{cause_of, IsCause, IsHalt, IsStop, OrMemory, Reads, Refuses};
 ghost use Rattle.hr_lexer.specs.Marks.{mark_count};
 ghost use Rattle.hr_lexer.specs.Spans.{behind_all, items_at, AreWithin};
 ghost use Rattle.hr_lexer.specs.LexemeReader.{lexeme_at, special_at};
@@ -18,21 +19,19 @@ use crate::quotes::{char_at_quote, string_at_quote};
 use crate::source::{Source, split, utf8_len};
 use crate::spans::{Span, items_at};
 use crate::taken::Taken;
-use hr_base::{Class, Items, Text};
+use hr_base::{Class, Items, MODULE_LIMIT, Text};
 use hr_rules::{Kind, kind_of};
 use std::alloc::{AllocError, Global};
 use std::str;
-
-const LONGEST_TEXT: usize = 1_048_576;
 
 /// The items of a text.
 pub fn lex(alloc: Global, bytes: &[u8]) -> Result<Items, LexError>
     ensures read { IfOk result (λ items. LexesText bytes.now items) }
     ensures refused { IfErr result (OrMemory (IsCause bytes.now)) }
     ensures exact { (error : LexError) → IsCause bytes.now error → Refuses error result }
-    ensures whole { (items : Items) → LexesText bytes.now items → length bytes.now ≤ longest_text → Reads items result }
+    ensures whole { (items : Items) → LexesText bytes.now items → length bytes.now ≤ module_limit → Reads items result }
 {
-    if bytes.len() > LONGEST_TEXT {
+    if bytes.len() > MODULE_LIMIT {
         return Err(LexError::TooLong);
     }
     items(alloc, bytes)
@@ -95,7 +94,7 @@ fn with_front(alloc: Global, front: &[u8], text: &Text) -> Result<Text, AllocErr
 {
     let mut bytes = Vec::from_slice(alloc, front)?;
     bytes.extend_from_slice(text.as_slice())?;
-    Ok(Text { bytes })
+    Text::from_vec(bytes)
 }
 
 /// The items of what is left of a text of this many bytes. Only a text that has items takes memory

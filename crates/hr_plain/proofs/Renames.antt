@@ -1,5 +1,6 @@
 -- What a renaming writes is the text of its target.
-use Rattle.std.proofs.Common.{◌≡◌, ℕ, ◌≤◌, true, false, List, [], length, sym, ap, subst}
+use Rattle.std.proofs.Common.{◌≡◌, ℕ, ◌<◌, ◌≤◌, true, false, List, [], length, sym, ap, subst}
+use Rattle.hr_base.specs.Limits.{module_limit}
 use Rattle.hr_base.specs.declared.place.Pos.{Pos}
 use Rattle.hr_base.specs.declared.lexeme.Item.{Item}
 use Rattle.hr_base.specs.declared.lexeme.Items.{Items}
@@ -12,7 +13,8 @@ use Rattle.hr_plain.specs.declared.binding.Owner.{Owner}
 use Rattle.hr_plain.specs.Binders.{binders_of}
 use Rattle.hr_plain.specs.Form.{IsForm, IsPlain, is_ascii_text}
 use Rattle.hr_plain.specs.Target.{AllRespell}
-use Rattle.hr_plain.specs.Renaming.{IsFound, IsNameAt, IsRenamed, Respelled, is_spelled, module_limit, owner_at}
+use Rattle.hr_plain.specs.declared.renaming.Why.{Why}
+use Rattle.hr_plain.specs.Renaming.{IsFound, IsNameAt, IsRenamed, IsWhy, Respelled, is_spelled, owner_at}
 use Rattle.hr_plain.proofs.TargetTree.{each_marked, equations_taken}
 use Rattle.hr_plain.proofs.SameBinders.{binders_stay}
 use Rattle.hr_plain.proofs.SameForm.{form_stays}
@@ -63,3 +65,10 @@ renamed bytes tree plain module_name pos lexeme old new text items found varid f
       };
       within = within;
     }
+
+pub over_limit : (tree : Module) (module_name : List ℕ) (pos : Pos) (lexeme : ℕ) (old new text : List ℕ) (items : Items)
+    → IsFound tree module_name pos lexeme old → IsVarId new → is_spelled new (module_items tree) ≡ false
+    → Respelled tree lexeme old new items → text ≡ joined items.list items.tail → module_limit < length text → IsWhy tree module_name pos new Why.OverLimit
+over_limit tree module_name pos lexeme old new text items found varid fresh r is long =
+    (lexeme, found.0, items, record { name = found.1; varid = varid; fresh = fresh }, subst (λ t. Respelled tree lexeme t new items) (sym found.2) r,
+      subst (λ t. module_limit < length t) is long)

@@ -3,6 +3,7 @@ use Rattle.std.proofs.Common.{◌≡◌, ◌≢◌, ℕ, ◌<◌, ◌≤◌, Boo
 use Rattle.std.proofs.lemmas.Bool.Decides.{leb_tells}
 use Rattle.std.proofs.lemmas.Slice.Eq.{bytes_eq-Decides}
 use Rattle.std.specs.Str.{bytes_eq}
+use Rattle.hr_base.specs.Limits.{module_limit}
 use Rattle.hr_base.specs.declared.place.Pos.{Pos}
 use Rattle.hr_base.specs.declared.lexeme.Item.{Item}
 use Rattle.hr_base.specs.declared.lexeme.Items.{Items}
@@ -10,7 +11,7 @@ use Rattle.hr_rules.specs.Lexing.{joined}
 use Rattle.hr_rules.specs.Positions.{positions_of, is_same_pos}
 use Rattle.hr_rules.specs.Lexemes.{LexesText}
 use Rattle.hr_lexer.specs.declared.error.LexError.{LexError}
-use Rattle.hr_lexer.specs.Refusals.{IsCause, longest_text}
+use Rattle.hr_lexer.specs.Refusals.{IsCause}
 use Rattle.hr_lexer.specs.Words.{AreApart, IsVarId}
 use Rattle.hr_lexer.proofs.Decided.{apart_or_not, varid_or_not}
 use Rattle.hr_lexer.proofs.Total.{read_or_refused_lem}
@@ -24,7 +25,7 @@ use Rattle.hr_plain.specs.Form.{IsPlain}
 use Rattle.hr_plain.specs.Laws.{PlainOrRefused, RenamedOrRefused}
 use Rattle.hr_plain.specs.Reading.{equations_of}
 use Rattle.hr_plain.specs.Refusals.{IsLoadRefusal}
-use Rattle.hr_plain.specs.Renaming.{IsNameAt, IsRenamed, IsWhy, NoName, Respelled, is_spelled, module_limit, number_of, owner_at}
+use Rattle.hr_plain.specs.Renaming.{IsNameAt, IsRenamed, IsWhy, NoName, Respelled, is_spelled, number_of, owner_at}
 use Rattle.hr_plain.specs.Scoping.{is_variable, occurrences_of}
 use Rattle.hr_plain.specs.Sets.{are_scoped}
 use Rattle.hr_plain.specs.Target.{AllRespell, IsParted, Respells}
@@ -52,7 +53,7 @@ module _ (bytes : List ℕ) where
     by_plain true e = by_read e (equations_of items.list) refl
     by_plain false e = inr (inr (not_plain bytes items lexes e))
 
-  by_lexer : ((items : Items) × LexesText bytes items × (length bytes ≤ longest_text)) ⊎ ((error : LexError) × IsCause bytes error) → TreeOrNot
+  by_lexer : ((items : Items) × LexesText bytes items × (length bytes ≤ module_limit)) ⊎ ((error : LexError) × IsCause bytes error) → TreeOrNot
   by_lexer (inl (items, lexes, short)) = by_plain items lexes (are_plain items) refl
   by_lexer (inr is) = inr (inl is)
 

@@ -2,6 +2,7 @@
 use Rattle.std.specs.Prelude.{◌≡◌, ℕ, zero, suc, ◌-◌, ◌≤◌, ◌<◌, Bool, true, false, nat_lt, nat_eq, List, [], ◌∷◌, length, Option, Some, None, slice_get, position, if◌then◌else◌, codes}
 use Rattle.std.specs.List.{list_any}
 use Rattle.std.specs.Cmp.Lexicographic.{pointwise}
+use Rattle.hr_base.specs.Limits.{module_limit}
 use Rattle.hr_base.specs.declared.place.Pos.{Pos}
 use Rattle.hr_base.specs.declared.lexeme.Item.{Item}
 use Rattle.hr_base.specs.declared.lexeme.Items.{Items}
@@ -39,9 +40,6 @@ owner_at tree lexeme text = owner_from 0 tree.equations lexeme text
 -- some lexeme has this text
 abbrev pub is_spelled : List ℕ → List Item → Bool
 is_spelled text items = list_any (λ item. pointwise nat_eq item.lexeme.text text) items
-
-abbrev pub module_limit : ℕ
-module_limit = 1048576
 
 -- the lexeme of that number begins at the position of the module `Main`, and is a variable
 pub record IsNameAt (tree : Module) (module_name : List ℕ) (pos : Pos) (lexeme : ℕ) (item : Item) : Type 0 where

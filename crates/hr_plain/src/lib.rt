@@ -15,7 +15,7 @@ mod writing;
 
 pub use laws::{plain_or_refused, renamed_or_refused};
 pub use loading::{LoadError, load};
-pub use renaming::{MODULE_LIMIT, Sought, Why, rename};
+pub use renaming::{Sought, Why, rename};
 
 #[cfg(test)]
 mod tests;

@@ -6,14 +6,11 @@ ghost use Rattle.hr_plain.specs.Renaming.{IsFound, IsRenamed, IsWhy, NoName, Res
 use crate::binding::{occurrences, owner_of};
 use crate::lexemes::is_variable;
 use crate::writing::respelled;
-use hr_base::{Items, Place, Pos, Text};
+use hr_base::{Items, MODULE_LIMIT, Place, Pos, Text};
 use hr_lexer::is_varid;
 use hr_plain_tree::{Module, at};
 use hr_rules::join;
 use std::alloc::{AllocError, Global};
-
-/// How many bytes the text of a module may have.
-pub const MODULE_LIMIT: usize = 1_048_576;
 
 /// What a command looks for: a thing at a place, or one of a name.
 #[derive(Debug, Drop, PartialEq, Eq)]

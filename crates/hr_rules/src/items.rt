@@ -14,5 +14,5 @@ pub fn join(alloc: Global, items: &Items) -> Result<Text, AllocError>
         bytes.extend_from_slice(item.lexeme.text.as_slice())?;
     }
     bytes.extend_from_slice(items.tail.as_slice())?;
-    Ok(Text { bytes })
+    Text::from_vec(bytes)
 }

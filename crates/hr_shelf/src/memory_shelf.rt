@@ -14,7 +14,7 @@ use std::marker::Model;
 /// Files in memory. The calls of a list fail.
 #[derive(Debug, Drop)]
 pub struct MemoryShelf {
-    files: Vec<(Text, Text)>,
+    files: Vec<(Text, Seq<u8>)>,
     calls: Calls,
     read_faults: u64,
     replace_faults: u64,
@@ -50,7 +50,7 @@ impl MemoryShelf {
         ensures puts { OnOk result (self.new ≡ with_file self.old name.now bytes.items) }
         ensures stays { OnErr result (self.new ≡ self.old) }
     {
-        let bytes = Text { bytes };
+        let bytes = Seq { list: bytes };
         if let Some(place) = place_of(&self.files, name.as_bytes()) {
             self.files[place].1 = bytes;
             return Ok(());
@@ -108,7 +108,7 @@ impl Shelf for MemoryShelf {
             return Err(Failed);
         }
         let place = place_of(&self.files, name.as_bytes()).unwrap();
-        self.files[place].1 = Text { bytes };
+        self.files[place].1 = Seq { list: bytes };
         Ok(())
     }
 }

@@ -13,13 +13,13 @@ returns-in-Ok-replace g c words reads good =
       c.args.new,
       record { good = good; reads = c.requires.read; within = c.requires.within },
       c.requires.step,
-      c.in-Ok-replace.ensures.puts ∙ ap (replaced (g.S.Shelf.told c.args.shelf.now) c.args.command.file.now) c.new.view_is,
-      c.in-Ok.ensures,
+      c.in-Ok-replace.ensures.puts ∙ ap (replaced (g.S.Shelf.told c.args.shelf.now) c.args.command.file.now) c.in-Ok.ensures,
+      c.in-Ok-done.ensures,
     )
     c.tell.ensures
 
-pub returns-in-Err : goal.returns-in-Err
-returns-in-Err g c words reads good =
+pub returns : goal.returns
+returns g c words reads good =
     told words _ _ Status.WriteFault _ _ (
       shown c.args.command,
       c.args.bytes.now,
