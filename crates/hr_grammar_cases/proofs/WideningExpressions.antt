@@ -1,5 +1,5 @@
 -- Types, patterns and expressions that are read with so many levels are read with more.
-use Rattle.std.proofs.Common.{ℕ, Bool, true, List, [], ◌∷◌}
+use Rattle.std.proofs.Common.{ℕ, List, [], ◌∷◌}
 use Rattle.hr_base.specs.declared.lexeme.Ending.{Ending}
 use Rattle.hr_tree.specs.declared.lists.Operand.{Operand}
 use Rattle.hr_tree.specs.declared.types.Ty.{Ty}
@@ -12,7 +12,7 @@ use Rattle.hr_tree.specs.declared.expressions.Alt.{Alt}
 use Rattle.hr_tree.specs.declared.expressions.Qualifier.{Qualifier, out-Qualifier}
 use Rattle.hr_tree.specs.declared.expressions.Decl.TheOpen.{Exp-F, Qualifier-F}
 use Rattle.hr_grammar.specs.Words.{IsComma}
-use Rattle.hr_grammar.specs.Nodes.{TyPlace, PatPlace, ExpPlace, DeclPlace}
+use Rattle.hr_grammar.specs.Nodes.{Colons, TyPlace, PatPlace, ExpPlace, DeclPlace}
 use Rattle.hr_grammar.specs.Expressions.{last_operand}
 use Rattle.hr_grammar_cases.specs.Readings.{one}
 use Rattle.hr_grammar_cases.specs.Derivations.{Derivations}
@@ -55,10 +55,10 @@ pat_widens below more each n place (Pat-F.Apply named arguments) = given_widens 
 pat_widens below more each n place (Pat-F.Infix operands) = given_widens _ (pat_operands_widen below more each n operands)
 pat_widens below more each n place (Pat-F.Fields named left fields right) = same_widens
 
-pub whole_widens : (below more : Derivations) → AllWiden below more → (n : ℕ) (free : Bool) (part : Exp) → Widens (whole below n free part) (whole more n free part)
+pub whole_widens : (below more : Derivations) → AllWiden below more → (n : ℕ) (free : Colons) (part : Exp) → Widens (whole below n free part) (whole more n free part)
 whole_widens below more each n free part = inside_widens (each.exp n free ExpPlace.Whole part)
 
-pub exp_operands_widen : (below more : Derivations) → AllWiden below more → (n : ℕ) (free : Bool) (last : ExpPlace) (operands : List (Operand Exp)) (ending : Ending)
+pub exp_operands_widen : (below more : Derivations) → AllWiden below more → (n : ℕ) (free : Colons) (last : ExpPlace) (operands : List (Operand Exp)) (ending : Ending)
     → Widens (exp_operands below n free last operands ending) (exp_operands more n free last operands ending)
 exp_operands_widen below more each n free last [] ending = same_widens
 exp_operands_widen below more each n free last (operand ∷ []) ending = given_widens _ (then_widens same_widens (each.exp n free last operand.part ending))
@@ -67,9 +67,9 @@ exp_operands_widen below more each n free last (operand ∷ (next ∷ rest)) end
 
 qualifier_layer_widens : (below more : Derivations) → AllWiden below more → (n : ℕ) (layer : Qualifier-F Decl Exp Qualifier Alt) → Widens (qualifier_reading below n layer) (qualifier_reading more n layer)
 qualifier_layer_widens below more each n (Qualifier-F.Generator pattern arrow part) =
-    then_widens (each.pat n PatPlace.Whole pattern) (then_widens same_widens (whole_widens below more each n true part))
+    then_widens (each.pat n PatPlace.Whole pattern) (then_widens same_widens (whole_widens below more each n Colons.Allowed part))
 qualifier_layer_widens below more each n (Qualifier-F.Locals word block) = then_widens same_widens (each.declarations n DeclPlace.Local block)
-qualifier_layer_widens below more each n (Qualifier-F.Test part) = whole_widens below more each n true part
+qualifier_layer_widens below more each n (Qualifier-F.Test part) = whole_widens below more each n Colons.Allowed part
 
 pub qualifier_widens : (below more : Derivations) → AllWiden below more → (n : ℕ) (qualifier : Qualifier) → Widens (qualifier_over below n qualifier) (qualifier_over more n qualifier)
 qualifier_widens below more each n qualifier = qualifier_layer_widens below more each n (out-Qualifier qualifier)
@@ -78,30 +78,30 @@ pub atom_widens : (below more : Derivations) → AllWiden below more → (n : �
 atom_widens below more each n (Exp-F.Variable used) = same_widens
 atom_widens below more each n (Exp-F.Constructor named) = same_widens
 atom_widens below more each n (Exp-F.Literal literal) = same_widens
-atom_widens below more each n (Exp-F.Group left part right) = then_widens same_widens (then_widens (whole_widens below more each n true part) same_widens)
+atom_widens below more each n (Exp-F.Group left part right) = then_widens same_widens (then_widens (whole_widens below more each n Colons.Allowed part) same_widens)
 atom_widens below more each n (Exp-F.Tuple left parts right) =
-    given_widens _ (then_widens same_widens (then_widens (separated_widens (one n IsComma) _ _ (whole_widens below more each n true) parts) same_widens))
+    given_widens _ (then_widens same_widens (then_widens (separated_widens (one n IsComma) _ _ (whole_widens below more each n Colons.Allowed) parts) same_widens))
 atom_widens below more each n (Exp-F.List left parts right) =
-    given_widens _ (then_widens same_widens (then_widens (separated_widens (one n IsComma) _ _ (whole_widens below more each n true) parts) same_widens))
-atom_widens below more each n (Exp-F.From left first dots right) = then_widens same_widens (then_widens (whole_widens below more each n true first) same_widens)
+    given_widens _ (then_widens same_widens (then_widens (separated_widens (one n IsComma) _ _ (whole_widens below more each n Colons.Allowed) parts) same_widens))
+atom_widens below more each n (Exp-F.From left first dots right) = then_widens same_widens (then_widens (whole_widens below more each n Colons.Allowed first) same_widens)
 atom_widens below more each n (Exp-F.FromThen left first comma second dots right) =
-    then_widens same_widens (then_widens (whole_widens below more each n true first) (then_widens same_widens (then_widens (whole_widens below more each n true second) same_widens)))
+    then_widens same_widens (then_widens (whole_widens below more each n Colons.Allowed first) (then_widens same_widens (then_widens (whole_widens below more each n Colons.Allowed second) same_widens)))
 atom_widens below more each n (Exp-F.FromTo left first dots last right) =
-    then_widens same_widens (then_widens (whole_widens below more each n true first) (then_widens same_widens (then_widens (whole_widens below more each n true last) same_widens)))
+    then_widens same_widens (then_widens (whole_widens below more each n Colons.Allowed first) (then_widens same_widens (then_widens (whole_widens below more each n Colons.Allowed last) same_widens)))
 atom_widens below more each n (Exp-F.FromThenTo left first comma second dots last right) =
     then_widens same_widens
-    (then_widens (whole_widens below more each n true first)
+    (then_widens (whole_widens below more each n Colons.Allowed first)
     (then_widens same_widens
-    (then_widens (whole_widens below more each n true second) (then_widens same_widens (then_widens (whole_widens below more each n true last) same_widens)))))
+    (then_widens (whole_widens below more each n Colons.Allowed second) (then_widens same_widens (then_widens (whole_widens below more each n Colons.Allowed last) same_widens)))))
 atom_widens below more each n (Exp-F.Comprehension left part bar qualifiers right) =
     given_widens _
     (then_widens same_widens
-    (then_widens (whole_widens below more each n true part)
+    (then_widens (whole_widens below more each n Colons.Allowed part)
     (then_widens same_widens (then_widens (separated_widens (one n IsComma) _ _ (qualifier_widens below more each n) qualifiers) same_widens))))
 atom_widens below more each n (Exp-F.LeftSection left part operator right) =
-    then_widens same_widens (then_widens (inside_widens (each.exp n true ExpPlace.Sequence part)) same_widens)
+    then_widens same_widens (then_widens (inside_widens (each.exp n Colons.Allowed ExpPlace.Sequence part)) same_widens)
 atom_widens below more each n (Exp-F.RightSection left operator part right) =
-    given_widens _ (then_widens same_widens (then_widens same_widens (then_widens (inside_widens (each.exp n true ExpPlace.Sequence part)) same_widens)))
+    given_widens _ (then_widens same_widens (then_widens same_widens (then_widens (inside_widens (each.exp n Colons.Allowed ExpPlace.Sequence part)) same_widens)))
 atom_widens below more each n (Exp-F.Apply atoms) = same_widens
 atom_widens below more each n (Exp-F.Infix operands) = same_widens
 atom_widens below more each n (Exp-F.Annotated part colons ty) = same_widens
@@ -111,7 +111,7 @@ atom_widens below more each n (Exp-F.If word test then_word first else_word seco
 atom_widens below more each n (Exp-F.Case word part of_word block) = same_widens
 atom_widens below more each n (Exp-F.Fields part left fields right) = same_widens
 
-pub exp_widens : (below more : Derivations) → AllWiden below more → (n : ℕ) (free : Bool) (place : ExpPlace) (layer : Exp-F Decl Exp Qualifier Alt) (ending : Ending)
+pub exp_widens : (below more : Derivations) → AllWiden below more → (n : ℕ) (free : Colons) (place : ExpPlace) (layer : Exp-F Decl Exp Qualifier Alt) (ending : Ending)
     → Widens (exp_reading below n free place layer ending) (exp_reading more n free place layer ending)
 exp_widens below more each n free place (Exp-F.Apply atoms) ending = given_widens _ (in_turn_widens _ _ (λ atom. inside_widens (each.exp n free ExpPlace.Atom atom)) atoms)
 exp_widens below more each n free place (Exp-F.Case word part of_word block) ending =
@@ -127,7 +127,7 @@ exp_widens below more each n free place (Exp-F.If word test then_word first else
     (then_widens same_widens (then_widens (whole_widens below more each n free first) (then_widens same_widens (each.exp n free ExpPlace.Whole second ending))))))
 exp_widens below more each n free place (Exp-F.Infix operands) ending = given_widens _ (exp_operands_widen below more each n free (last_operand place) operands ending)
 exp_widens below more each n free place (Exp-F.Annotated part colons ty) ending =
-    given_widens _ (then_widens (inside_widens (each.exp n true ExpPlace.Annotated part)) (then_widens same_widens (each.ty n TyPlace.Whole ty)))
+    given_widens _ (then_widens (inside_widens (each.exp n Colons.Allowed ExpPlace.Annotated part)) (then_widens same_widens (each.ty n TyPlace.Whole ty)))
 exp_widens below more each n free place (Exp-F.Fields part left fields right) ending = same_widens
 exp_widens below more each n free place (Exp-F.Variable used) ending = same_widens
 exp_widens below more each n free place (Exp-F.Constructor named) ending = same_widens

@@ -19,7 +19,7 @@ use Rattle.hr_tree.specs.declared.expressions.Decl.TheOpen.{Decl-F}
 use Rattle.hr_tree.specs.declared.expressions.Qualifier.{Qualifier}
 use Rattle.hr_tree.specs.declared.expressions.Alt.{Alt, out-Alt}
 use Rattle.hr_grammar.specs.Words.{IsEquals, IsArrow, IsBar}
-use Rattle.hr_grammar.specs.Nodes.{TyPlace, PatPlace, ExpPlace, DeclPlace}
+use Rattle.hr_grammar.specs.Nodes.{Colons, TyPlace, PatPlace, ExpPlace, DeclPlace}
 use Rattle.hr_grammar.specs.Spans.{part_ending}
 use Rattle.hr_grammar_cases.specs.Readings.{one}
 use Rattle.hr_grammar_cases.specs.Derivations.{Derivations}
@@ -61,7 +61,7 @@ left_side_widens below more each n left =
 pub guarded_widens : (below more : Derivations) → AllWiden below more → (n : ℕ) (IsMark : Item → Type 0) (guarded : Guarded Exp) (ending : Ending)
     → Widens (guarded_reading below n IsMark guarded ending) (guarded_reading more n IsMark guarded ending)
 guarded_widens below more each n IsMark guarded ending =
-    then_widens same_widens (then_widens (inside_widens (each.exp n false ExpPlace.Sequence guarded.guard)) (then_widens same_widens (each.exp n true ExpPlace.Whole guarded.body ending)))
+    then_widens same_widens (then_widens (inside_widens (each.exp n Colons.Barred ExpPlace.Sequence guarded.guard)) (then_widens same_widens (each.exp n Colons.Allowed ExpPlace.Whole guarded.body ending)))
 
 pub guards_widen : (below more : Derivations) → AllWiden below more → (n : ℕ) (IsMark : Item → Type 0) (list : List (Guarded Exp)) (ending : Ending)
     → Widens (guards_reading below n IsMark list ending) (guards_reading more n IsMark list ending)
@@ -73,7 +73,7 @@ guards_widen below more each n IsMark (guarded ∷ (next ∷ rest)) ending =
 pub body_widens : (below more : Derivations) → AllWiden below more → (n : ℕ) (IsMark : Item → Type 0) (body : Body Exp) (ending : Ending)
     → Widens (body_reading below n IsMark body ending) (body_reading more n IsMark body ending)
 body_widens below more each n IsMark (Body.Plain mark body) ending =
-    ends_as_widens (part_ending false) (λ inner. then_widens same_widens (each.exp n true ExpPlace.Whole body inner)) ending
+    ends_as_widens (part_ending false) (λ inner. then_widens same_widens (each.exp n Colons.Allowed ExpPlace.Whole body inner)) ending
 body_widens below more each n IsMark (Body.Guarded list) ending = ends_as_widens (part_ending true) (guards_widen below more each n IsMark list) ending
 
 pub right_side_widens : (below more : Derivations) → AllWiden below more → (n : ℕ) (IsMark : Item → Type 0) (body : Body Exp) (locals : Option (Where Decl)) (ending : Ending)

@@ -33,7 +33,7 @@ pub fn levels_are()
     ensures { LevelsAre }
 {}
 
-/// What is read as a module is yielded by a tree of the grammar.
+/// What is read as a module is a tree of the grammar, and is yielded by it.
 pub fn modules_are()
     ensures { ModulesAre }
 {}
@@ -63,7 +63,8 @@ pub fn modules_stand()
     ensures { ModulesStand }
 {}
 
-/// What is read as a module within the limit on nesting is yielded by a tree of the grammar whose blocks stand so.
+/// What is read as a module within the limit on nesting is yielded by a tree of the grammar whose blocks stand so, and
+/// what is read on any level by a deep one.
 pub fn modules_yield()
     ensures { ModulesYield }
 {}
