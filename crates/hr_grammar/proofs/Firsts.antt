@@ -20,7 +20,7 @@ use Rattle.hr_tree.specs.Names.{constructor_items, variable_items, maybe_item, m
 use Rattle.hr_tree.specs.Yields.{ty_items, pat_items, exp_items}
 use Rattle.hr_grammar.specs.Words.{IsOf, IsText, IsLiteral, IsMinus}
 use Rattle.hr_grammar.specs.Spelled.{Maybe, IsTypeConstructor, IsConstructor, IsVariable, IsNamedVariable}
-use Rattle.hr_grammar.specs.Nodes.{TyPlace, PatPlace, ExpPlace}
+use Rattle.hr_grammar.specs.Nodes.{Colons, TyPlace, PatPlace, ExpPlace}
 use Rattle.hr_grammar.specs.Types.{TyProduction}
 use Rattle.hr_grammar.specs.Patterns.{PatProduction}
 use Rattle.hr_grammar.specs.Expressions.{ExpProduction, last_operand}
@@ -147,8 +147,8 @@ first_operand : (minus : Option Item) (items more : List Item) → Maybe IsMinus
 first_operand None items more m b = expression_more items more b
 first_operand (Some minus) items more m b = inl (of_text begins_operand Class.VarSym (codes "-") minus m refl)
 
-exp_level : (levels : ℕ) → ((free : Bool) (place : ExpPlace) (exp : Exp) → (nodes levels).exp free place exp → BeginsExpression (exp_items exp))
-    → (free : Bool) (place : ExpPlace) (layer : Exp-F Decl Exp Qualifier Alt) → ExpProduction (nodes levels) free place layer → BeginsExpression (exp_joined layer)
+exp_level : (levels : ℕ) → ((free : Colons) (place : ExpPlace) (exp : Exp) → (nodes levels).exp free place exp → BeginsExpression (exp_items exp))
+    → (free : Colons) (place : ExpPlace) (layer : Exp-F Decl Exp Qualifier Alt) → ExpProduction (nodes levels) free place layer → BeginsExpression (exp_joined layer)
 exp_level levels below free place (Exp-F.Variable used) is = named_variable_begins used is
 exp_level levels below free place (Exp-F.Constructor named) is = used_constructor_begins named is
 exp_level levels below free place (Exp-F.Literal literal) is = inl (operand_literal literal is)
@@ -166,7 +166,7 @@ exp_level levels below free place (Exp-F.Lambda mark patterns arrow body) is = i
 exp_level levels below free place (Exp-F.Let word block in_word body) is = inr (opens_by Class.ReservedId (codes "let") word is.1 refl)
 exp_level levels below free place (Exp-F.If word test then_word first else_word second) is = inr (opens_by Class.ReservedId (codes "if") word is.1 refl)
 exp_level levels below free place (Exp-F.Case word part of_word block) is = inr (opens_by Class.ReservedId (codes "case") word is.1 refl)
-exp_level levels below free place (Exp-F.Annotated part colons ty) is = expression_more (exp_items part) _ (below true ExpPlace.Annotated part is.2)
+exp_level levels below free place (Exp-F.Annotated part colons ty) is = expression_more (exp_items part) _ (below Colons.Allowed ExpPlace.Annotated part is.2)
 exp_level levels below free place (Exp-F.Apply []) is = elim is.1 [ ]
 exp_level levels below free place (Exp-F.Apply (atom ∷ atoms)) is = expression_more (exp_items atom) _ (below free ExpPlace.Atom atom is.2.0)
 exp_level levels below free place (Exp-F.Infix []) is = elim is.1 [ ]

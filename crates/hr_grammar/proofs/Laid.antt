@@ -35,7 +35,7 @@ use Rattle.hr_tree.specs.declared.expressions.Decl.TheViews.{rolls-Variable, rol
 use Rattle.hr_tree.specs.Names.{variable_items, constructor_items}
 use Rattle.hr_tree.specs.Lists.{body_items, where_items}
 use Rattle.hr_tree.specs.Yields.{done, ty_layer, ty_items, pat_layer, pat_items, decl_layer, exp_layer, qualifier_layer, alt_layer}
-use Rattle.hr_grammar.specs.Spans.{Laid, bare, one, ending_as, ◌▷◌, right_side_laid, decl_laid, exp_laid, qualifier_laid, alt_laid}
+use Rattle.hr_grammar.specs.Spans.{Laid, blockless, one, ending_as, ◌▷◌, right_side_laid, decl_laid, exp_laid, qualifier_laid, alt_laid}
 
 -- a function of a tree, by what each node gives
 pub record Algebra (T : Type 0) : Type 0 where
@@ -197,8 +197,8 @@ fold_binding {T} g pattern mark body =
 
 abbrev pub read_binding : {pattern : Pat} {mark : Item} {body : Exp} → ReadPat pattern → ReadExp body → ReadDecl (Binding pattern (Body.Plain mark body) None)
 read_binding {pattern} {mark} {body} the_pattern the_body = record {
-  laid = bare the_pattern.items ▷ right_side_laid (Body.Plain mark the_body.laid) None;
-  laid_is = fold_binding laid_by pattern mark body ∙ (λ j. bare (the_pattern.items_is j) ▷ right_side_laid (Body.Plain mark (the_body.laid_is j)) None);
+  laid = blockless the_pattern.items ▷ right_side_laid (Body.Plain mark the_body.laid) None;
+  laid_is = fold_binding laid_by pattern mark body ∙ (λ j. blockless (the_pattern.items_is j) ▷ right_side_laid (Body.Plain mark (the_body.laid_is j)) None);
   items = the_pattern.items ++ (body_items done (Body.Plain mark the_body.items) ++ []);
   items_is = fold_binding yield_by pattern mark body ∙ (λ j. the_pattern.items_is j ++ (body_items done (Body.Plain mark (the_body.items_is j)) ++ []));
 }
@@ -238,8 +238,8 @@ fold_alt {T} g pattern mark body = fold-roll-Alt T T T T g.decl g.exp g.qualifie
 
 abbrev pub read_alt : {pattern : Pat} {mark : Item} {body : Exp} → ReadPat pattern → ReadExp body → ReadAlt (roll-Alt (record { pattern = pattern; body = Body.Plain mark body; locals = None }))
 read_alt {pattern} {mark} {body} the_pattern the_body = record {
-  laid = bare the_pattern.items ▷ right_side_laid (Body.Plain mark the_body.laid) None;
-  laid_is = fold_alt laid_by pattern mark body ∙ (λ j. bare (the_pattern.items_is j) ▷ right_side_laid (Body.Plain mark (the_body.laid_is j)) None);
+  laid = blockless the_pattern.items ▷ right_side_laid (Body.Plain mark the_body.laid) None;
+  laid_is = fold_alt laid_by pattern mark body ∙ (λ j. blockless (the_pattern.items_is j) ▷ right_side_laid (Body.Plain mark (the_body.laid_is j)) None);
   items = the_pattern.items ++ (body_items done (Body.Plain mark the_body.items) ++ []);
   items_is = fold_alt yield_by pattern mark body ∙ (λ j. the_pattern.items_is j ++ (body_items done (Body.Plain mark (the_body.items_is j)) ++ []));
 }
@@ -251,8 +251,8 @@ fold_lambda {T} g mark pattern arrow body =
 
 abbrev pub read_lambda : {mark : Item} {pattern : Pat} {arrow : Item} {body : Exp} → ReadPat pattern → ReadExp body → ReadExp (Lambda mark (pattern ∷ []) arrow body)
 read_lambda {mark} {pattern} {arrow} {body} the_pattern the_body = record {
-  laid = one mark ▷ bare (the_pattern.items ++ []) ▷ one arrow ▷ the_body.laid;
-  laid_is = fold_lambda laid_by mark pattern arrow body ∙ (λ j. one mark ▷ bare (the_pattern.items_is j ++ []) ▷ one arrow ▷ the_body.laid_is j);
+  laid = one mark ▷ blockless (the_pattern.items ++ []) ▷ one arrow ▷ the_body.laid;
+  laid_is = fold_lambda laid_by mark pattern arrow body ∙ (λ j. one mark ▷ blockless (the_pattern.items_is j ++ []) ▷ one arrow ▷ the_body.laid_is j);
   items = mark ∷ ((the_pattern.items ++ []) ++ arrow ∷ the_body.items);
   items_is = fold_lambda yield_by mark pattern arrow body ∙ (λ j. mark ∷ ((the_pattern.items_is j ++ []) ++ arrow ∷ the_body.items_is j));
 }
@@ -262,8 +262,8 @@ fold_annotated {T} g part colons ty = ap (of_exp g) (sym (rolls-Annotated part c
 
 abbrev pub read_annotated : {part : Exp} {colons : Item} {ty : Ty} → ReadExp part → ReadTy ty → ReadExp (Annotated part colons ty)
 read_annotated {part} {colons} {ty} the_part the_ty = record {
-  laid = ending_as (Ending.Annotated true false) (the_part.laid ▷ one colons ▷ bare the_ty.items);
-  laid_is = fold_annotated laid_by part colons ty ∙ (λ j. ending_as (Ending.Annotated true false) (the_part.laid_is j ▷ one colons ▷ bare (the_ty.items_is j)));
+  laid = ending_as (Ending.Annotated true false) (the_part.laid ▷ one colons ▷ blockless the_ty.items);
+  laid_is = fold_annotated laid_by part colons ty ∙ (λ j. ending_as (Ending.Annotated true false) (the_part.laid_is j ▷ one colons ▷ blockless (the_ty.items_is j)));
   items = the_part.items ++ colons ∷ the_ty.items;
   items_is = fold_annotated yield_by part colons ty ∙ (λ j. the_part.items_is j ++ colons ∷ the_ty.items_is j);
 }
@@ -308,8 +308,8 @@ fold_generator {T} g pattern arrow part =
 
 abbrev pub read_generator : {pattern : Pat} {arrow : Item} {part : Exp} → ReadPat pattern → ReadExp part → ReadQualifier (Generator pattern arrow part)
 read_generator {pattern} {arrow} {part} the_pattern the_part = record {
-  laid = bare the_pattern.items ▷ one arrow ▷ the_part.laid;
-  laid_is = fold_generator laid_by pattern arrow part ∙ (λ j. bare (the_pattern.items_is j) ▷ one arrow ▷ the_part.laid_is j);
+  laid = blockless the_pattern.items ▷ one arrow ▷ the_part.laid;
+  laid_is = fold_generator laid_by pattern arrow part ∙ (λ j. blockless (the_pattern.items_is j) ▷ one arrow ▷ the_part.laid_is j);
   items = the_pattern.items ++ arrow ∷ the_part.items;
   items_is = fold_generator yield_by pattern arrow part ∙ (λ j. the_pattern.items_is j ++ arrow ∷ the_part.items_is j);
 }
@@ -345,8 +345,8 @@ fold_where {T} g pattern mark body word layout decl =
 abbrev pub read_where : {pattern : Pat} {mark : Item} {body : Exp} {word : Item} {layout : Layout} {decl : Decl} → ReadPat pattern → ReadExp body → ReadDecl decl
     → ReadDecl (Binding pattern (Body.Plain mark body) (Some (record { word = word; block = record { layout = layout; pieces = Piece.Part decl ∷ [] } })))
 read_where {pattern} {mark} {body} {word} {layout} {decl} the_pattern the_body the_decl = record {
-  laid = bare the_pattern.items ▷ right_side_laid (Body.Plain mark the_body.laid) (wheres word layout the_decl.laid);
-  laid_is = fold_where laid_by pattern mark body word layout decl ∙ (λ j. bare (the_pattern.items_is j) ▷ right_side_laid (Body.Plain mark (the_body.laid_is j)) (wheres word layout (the_decl.laid_is j)));
+  laid = blockless the_pattern.items ▷ right_side_laid (Body.Plain mark the_body.laid) (wheres word layout the_decl.laid);
+  laid_is = fold_where laid_by pattern mark body word layout decl ∙ (λ j. blockless (the_pattern.items_is j) ▷ right_side_laid (Body.Plain mark (the_body.laid_is j)) (wheres word layout (the_decl.laid_is j)));
   items = the_pattern.items ++ (body_items done (Body.Plain mark the_body.items) ++ where_items done (wheres word layout the_decl.items));
   items_is = fold_where yield_by pattern mark body word layout decl ∙ (λ j. the_pattern.items_is j ++ (body_items done (Body.Plain mark (the_body.items_is j)) ++ where_items done (wheres word layout (the_decl.items_is j))));
 }

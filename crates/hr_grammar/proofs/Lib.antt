@@ -1,13 +1,12 @@
-pub mod Colons
+pub mod Deep
 pub mod Firsts
 pub mod Joins
 pub mod Laid
 pub mod LeftOut
-pub mod NoTrees
 pub mod OffsideTest
 pub mod PartFirsts
 pub mod Places
+pub mod SameTrees
 pub mod Tables
-pub mod TwiceAnnotated
 pub mod Worked
 pub mod walk

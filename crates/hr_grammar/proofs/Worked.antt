@@ -21,17 +21,17 @@ use Rattle.hr_tree.specs.declared.expressions.Decl.TheBlock.{shown-the_row-Decl-
 use denote.Hole.Carrier.{out, shown, hidden}
 use Rattle.hr_tree.specs.Lists.{block_items}
 use Rattle.hr_tree.specs.Yields.{done}
-use Rattle.hr_grammar.specs.Nodes.{ExpPlace}
+use Rattle.hr_grammar.specs.Nodes.{Colons, ExpPlace}
 use Rattle.hr_grammar.specs.Yields.{IsModule, nodes, nesting_limit}
-use Rattle.hr_grammar.specs.Spans.{Laid, Span, bare, block_laid, ◌▷◌}
+use Rattle.hr_grammar.specs.Spans.{Laid, Span, blockless, block_laid, ◌▷◌}
 use Rattle.hr_grammar.specs.Offside.{placed_among, StandsWell}
-use Rattle.hr_grammar.specs.Worked.{item, joint, name, mark, only, defines, behind_blocks, Stands, case_in_tuple, case_in_comprehension, case_in_sequence, case_in_if, case_in_case, annotated_in_let, where_in_let, sum_behind_case, section_of_lambda, WorkedTrees}
+use Rattle.hr_grammar.specs.Worked.{item, joint, name, mark, only, defines, behind_blocks, IsWorked, case_in_tuple, case_in_comprehension, case_in_sequence, case_in_if, case_in_case, annotated_in_let, where_in_let, sum_behind_case, section_of_lambda, WorkedTrees}
 use Rattle.hr_grammar.proofs.OffsideTest.{all_stand_well, all_stand_well_is}
 use Rattle.hr_grammar.proofs.Laid.{ReadExp, yield_by, of_decl, read_bound, read_built, read_type, read_binding, read_variable, read_constructor, read_literal, read_group, read_from, read_left_section, read_if, read_let, read_case, read_alt, read_lambda, read_annotated, read_tuple, read_infix, read_generator, read_comprehension, read_where}
 
 -- the blocks and the items of a module of one declaration, from those of the declaration
 abbrev spans_with : Laid → List Span
-spans_with laid = (bare [] ▷ block_laid BlockKind.Body (only 1 laid)).blocks 0 0
+spans_with laid = (blockless [] ▷ block_laid BlockKind.Body (only 1 laid)).blocks 0 0
 
 abbrev items_with : List Item → List Item
 items_with items = block_items done (only 1 items)
@@ -41,7 +41,7 @@ AllStand spans items = AllByRecursion (StandsWell spans (placed_among spans 0 (p
 
 -- an expression that is the body of a module's only declaration, within the limit on nesting
 abbrev pub IsBody : Exp → Type 0
-IsBody = (nodes 254).exp true ExpPlace.Whole
+IsBody = (nodes 254).exp Colons.Allowed ExpPlace.Whole
 
 pub defines_grammar : (text : List ℕ) (body : Exp) → IsBody body → IsModule nesting_limit (defines text body)
 unfolding out-Decl out-Pat out shown hidden shown-the_row-Decl-Equation-2-4-1
@@ -54,7 +54,7 @@ stands : (text : List ℕ) (body : Exp) (source : List ℕ) (ends : List (Option
     → all_stand_well (spans_with decl.laid) (placed_among (spans_with decl.laid) 0 (placed_of (items_with decl.items))) (spans_with decl.laid) ≡ true
     → joined (items_with decl.items) [] ≡ source
     → behind_blocks (spans_with decl.laid) (items_with decl.items) ≡ ends
-    → Stands (defines text body) source ends
+    → IsWorked (defines text body) source ends
 stands text body source ends read grammar well is_text are_ends =
     let decl = read_binding {mark = mark (codes "=")} (read_bound {variable = name [] text}) read in
     record {
@@ -125,39 +125,39 @@ sum_grammar = (
   (refl, refl),
 )
 
-tuple_stands : Stands (defines (codes "a") case_in_tuple) (codes "a = (case x of y -> 1, 2)") (None ∷ Some (codes ",") ∷ [])
+tuple_stands : IsWorked (defines (codes "a") case_in_tuple) (codes "a = (case x of y -> 1, 2)") (None ∷ Some (codes ",") ∷ [])
 unfolding can_follow role_of
 tuple_stands = stands (codes "a") case_in_tuple _ _ (read_tuple (joint (codes ",")) (read_case read_variable (read_alt read_bound read_literal)) read_literal) tuple_grammar refl refl refl
 
-comprehension_stands : Stands (defines (codes "a") case_in_comprehension) (codes "a = [case x of y -> 1 : [] | y <- z]") (None ∷ Some (codes "|") ∷ [])
+comprehension_stands : IsWorked (defines (codes "a") case_in_comprehension) (codes "a = [case x of y -> 1 : [] | y <- z]") (None ∷ Some (codes "|") ∷ [])
 unfolding can_follow role_of
 comprehension_stands = stands (codes "a") case_in_comprehension _ _ (read_comprehension (read_case read_variable (read_alt read_bound (read_infix (Operator.Symbol (mark (codes ":"))) read_literal read_constructor))) (read_generator read_bound read_variable)) comprehension_grammar refl refl refl
 
-sequence_stands : Stands (defines (codes "a") case_in_sequence) (codes "a = [case x of y -> 1 ..]") (None ∷ Some (codes "..") ∷ [])
+sequence_stands : IsWorked (defines (codes "a") case_in_sequence) (codes "a = [case x of y -> 1 ..]") (None ∷ Some (codes "..") ∷ [])
 unfolding can_follow role_of
 sequence_stands = stands (codes "a") case_in_sequence _ _ (read_from (read_case read_variable (read_alt read_bound read_literal))) sequence_grammar refl refl refl
 
-if_stands : Stands (defines (codes "a") case_in_if) (codes "a = if case x of y -> y then 1 else 2") (None ∷ Some (codes "then") ∷ [])
+if_stands : IsWorked (defines (codes "a") case_in_if) (codes "a = if case x of y -> y then 1 else 2") (None ∷ Some (codes "then") ∷ [])
 unfolding can_follow role_of
 if_stands = stands (codes "a") case_in_if _ _ (read_if (read_case read_variable (read_alt read_bound read_variable)) read_literal read_literal) if_grammar refl refl refl
 
-case_stands : Stands (defines (codes "a") case_in_case) (codes "a = case case x of y -> y of z -> z") (None ∷ Some (codes "of") ∷ None ∷ [])
+case_stands : IsWorked (defines (codes "a") case_in_case) (codes "a = case case x of y -> y of z -> z") (None ∷ Some (codes "of") ∷ None ∷ [])
 unfolding can_follow role_of
 case_stands = stands (codes "a") case_in_case _ _ (read_case (read_case read_variable (read_alt read_bound read_variable)) (read_alt read_bound read_variable)) case_grammar refl refl refl
 
-annotated_stands : Stands (defines (codes "a") annotated_in_let) (codes "a = let b = 1 :: Int in b") (None ∷ Some (codes "in") ∷ [])
+annotated_stands : IsWorked (defines (codes "a") annotated_in_let) (codes "a = let b = 1 :: Int in b") (None ∷ Some (codes "in") ∷ [])
 unfolding can_follow role_of
 annotated_stands = stands (codes "a") annotated_in_let _ _ (read_let (read_binding read_bound (read_annotated read_literal read_type)) read_variable) annotated_grammar refl refl refl
 
-where_stands : Stands (defines (codes "a") where_in_let) (codes "a = let b = c where c = 1 in b") (None ∷ Some (codes "in") ∷ Some (codes "in") ∷ [])
+where_stands : IsWorked (defines (codes "a") where_in_let) (codes "a = let b = c where c = 1 in b") (None ∷ Some (codes "in") ∷ Some (codes "in") ∷ [])
 unfolding can_follow role_of
 where_stands = stands (codes "a") where_in_let _ _ (read_let (read_where read_bound read_variable (read_binding read_bound read_literal)) read_variable) where_grammar refl refl refl
 
-sum_stands : Stands (defines (codes "x") sum_behind_case) (codes "x = (case a of A -> 1 :: T + 2)") (None ∷ Some (codes "+") ∷ [])
+sum_stands : IsWorked (defines (codes "x") sum_behind_case) (codes "x = (case a of A -> 1 :: T + 2)") (None ∷ Some (codes "+") ∷ [])
 unfolding can_follow role_of
 sum_stands = stands (codes "x") sum_behind_case _ _ (read_group (read_infix (Operator.Symbol (item Class.VarSym (codes " ") (codes "+"))) (read_case read_variable (read_alt read_built (read_annotated read_literal read_type))) read_literal)) sum_grammar refl refl refl
 
-section_stands : Stands (defines (codes "a") section_of_lambda) (codes "a = (\\x -> x +)") (None ∷ [])
+section_stands : IsWorked (defines (codes "a") section_of_lambda) (codes "a = (\\x -> x +)") (None ∷ [])
 unfolding can_follow role_of
 section_stands = stands (codes "a") section_of_lambda _ _ (read_left_section (read_lambda read_bound read_variable)) section_grammar refl refl refl
 

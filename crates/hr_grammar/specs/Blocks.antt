@@ -11,14 +11,14 @@ IsPiece Is (Piece.Semicolon item) = IsSemicolon item
 IsPiece Is (Piece.Part part) = Is part
 
 -- a `;` stands between any two parts
-abbrev pub AreApart : {T : Type 0} → List (Piece T) → Type 0
-AreApart [] = Unit {0}
-AreApart (piece ∷ []) = Unit {0}
-AreApart (Piece.Part part ∷ (Piece.Part next ∷ rest)) = ⊥
-AreApart (Piece.Part part ∷ (Piece.Semicolon item ∷ rest)) = AreApart (Piece.Semicolon item ∷ rest)
-AreApart (Piece.Semicolon item ∷ (next ∷ rest)) = AreApart (next ∷ rest)
+abbrev pub PartsAreSeparated : {T : Type 0} → List (Piece T) → Type 0
+PartsAreSeparated [] = Unit {0}
+PartsAreSeparated (piece ∷ []) = Unit {0}
+PartsAreSeparated (Piece.Part part ∷ (Piece.Part next ∷ rest)) = ⊥
+PartsAreSeparated (Piece.Part part ∷ (Piece.Semicolon item ∷ rest)) = PartsAreSeparated (Piece.Semicolon item ∷ rest)
+PartsAreSeparated (Piece.Semicolon item ∷ (next ∷ rest)) = PartsAreSeparated (next ∷ rest)
 
 -- the braces of a block
 abbrev pub AreBraced : {T : Type 0} → Layout → List (Piece T) → Type 0
 AreBraced (Layout.Implicit col) pieces = Unit {0}
-AreBraced (Layout.Explicit left right) pieces = IsLeftBrace left × (IsRightBrace right × AreApart pieces)
+AreBraced (Layout.Explicit left right) pieces = IsLeftBrace left × (IsRightBrace right × PartsAreSeparated pieces)

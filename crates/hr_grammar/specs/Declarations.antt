@@ -23,7 +23,7 @@ use Rattle.hr_tree.specs.declared.expressions.Alt.{Alt, out-Alt}
 use Rattle.hr_grammar.specs.Words.{IsOf, IsWord, IsEquals, IsArrow, IsBar, IsComma, IsDoubleColon, IsInteger, IsLeftParen, IsRightParen}
 use Rattle.hr_grammar.specs.Spelled.{Maybe, IsVariable, IsOwnConstructor, IsOwnConstructorOperator, IsOwnVariableOperator, IsOwnOperator}
 use Rattle.hr_grammar.specs.Separated.{AreSeparated}
-use Rattle.hr_grammar.specs.Nodes.{Nodes, TyPlace, PatPlace, ExpPlace, DeclPlace}
+use Rattle.hr_grammar.specs.Nodes.{Nodes, Colons, TyPlace, PatPlace, ExpPlace, DeclPlace}
 use Rattle.hr_grammar.specs.Imports.{IsImport}
 
 -- simpletype: a type's constructor and its variables
@@ -60,11 +60,11 @@ IsLeftSideOver below left =
 -- a guard is a sequence without `::` outside of brackets and blocks
 abbrev pub IsGuardedOver : Nodes → (Item → Type 0) → Guarded Exp → Type 0
 IsGuardedOver below IsMark guarded =
-    IsBar guarded.bar × (below.exp false ExpPlace.Sequence guarded.guard × (IsMark guarded.mark × below.exp true ExpPlace.Whole guarded.body))
+    IsBar guarded.bar × (below.exp Colons.Barred ExpPlace.Sequence guarded.guard × (IsMark guarded.mark × below.exp Colons.Allowed ExpPlace.Whole guarded.body))
 
 -- what stands behind `=` or `->`
 abbrev pub IsBodyOver : Nodes → (Item → Type 0) → Body Exp → Type 0
-IsBodyOver below IsMark (Body.Plain mark body) = IsMark mark × below.exp true ExpPlace.Whole body
+IsBodyOver below IsMark (Body.Plain mark body) = IsMark mark × below.exp Colons.Allowed ExpPlace.Whole body
 IsBodyOver below IsMark (Body.Guarded list) = (list ≢ []) × AllByRecursion (IsGuardedOver below IsMark) list
 
 -- `where` and its block, or nothing

@@ -14,7 +14,7 @@ use Rattle.hr_tree.specs.declared.expressions.Exp.{Exp}
 use Rattle.hr_tree.specs.declared.expressions.Decl.{Decl}
 use Rattle.hr_tree.specs.declared.expressions.Alt.{Alt}
 use Rattle.hr_tree.specs.Yields.{ty_items, pat_items, exp_items, decl_items, alt_items}
-use Rattle.hr_grammar.specs.Nodes.{TyPlace, PatPlace, ExpPlace, DeclPlace}
+use Rattle.hr_grammar.specs.Nodes.{Colons, TyPlace, PatPlace, ExpPlace, DeclPlace}
 use Rattle.hr_grammar.specs.Yields.{nodes}
 
 -- there is a first item, of such a role
@@ -63,7 +63,7 @@ BeginsExpression [] = ⊥
 BeginsExpression (item ∷ items) = (begins_operand (role_of item.lexeme) ≡ true) ⊎ (opens_expression item.lexeme.class item.lexeme.text ≡ true)
 
 abbrev pub ExpressionsBegin : Type 0
-ExpressionsBegin = (levels : ℕ) (free : Bool) (place : ExpPlace) (exp : Exp) → (nodes levels).exp free place exp → BeginsExpression (exp_items exp)
+ExpressionsBegin = (levels : ℕ) (free : Colons) (place : ExpPlace) (exp : Exp) → (nodes levels).exp free place exp → BeginsExpression (exp_items exp)
 
 -- the kind of the blocks that have declarations at the place
 abbrev pub kind_at : DeclPlace → BlockKind

@@ -18,7 +18,7 @@ use Rattle.hr_tree.specs.declared.expressions.Decl.TheOpen.{Decl-F, Exp-F, Quali
 use Rattle.hr_tree.specs.Names.{maybe_item, variable_items, constructor_items, operator_items}
 use Rattle.hr_tree.specs.Lists.{listed_items, operand_items, field_items, block_items, body_items, where_items, opening_items}
 use Rattle.hr_tree.specs.Yields.{ty_items, pat_items, exp_items, decl_items, qualifier_items, alt_items, type_head_items, construction_items, left_side_items, import_items}
-use Rattle.hr_grammar.specs.Spans.{Laid, ◌▷◌, Span, bare, row, piece_laid, stretch_of, last_ending, block_laid, column_inside}
+use Rattle.hr_grammar.specs.Spans.{Laid, ◌▷◌, Span, blockless, row, piece_laid, stretch_of, last_ending, block_laid, column_inside}
 use Rattle.hr_grammar.specs.Offside.{StandsWell}
 
 -- the lexemes of a type's parts, from left to right
@@ -120,5 +120,5 @@ pub record PartsStand : Type 0 where
       ↔ AllStand spans lexemes ((first ▷ second).blocks m start)
   pub block : (spans : List Span) (lexemes : List Placed) (kind : BlockKind) (block : Block Laid) (m start : ℕ)
       → (StandsWell spans lexemes (own_span kind block m start)
-      × AllStand spans lexemes ((row (map piece_laid block.pieces)).blocks (column_inside block.layout) (start + (bare (opening_items block.layout)).extent)))
+      × AllStand spans lexemes ((row (map piece_laid block.pieces)).blocks (column_inside block.layout) (start + (blockless (opening_items block.layout)).extent)))
       ↔ AllStand spans lexemes ((block_laid kind block).blocks m start)

@@ -5,14 +5,10 @@ use Rattle.std.specs.List.{AllByRecursion}
 use lib.Chars.{codes}
 use Rattle.hr_base.specs.declared.lexeme.Class.{Class}
 use Rattle.hr_base.specs.declared.lexeme.Item.{Item}
-use Rattle.hr_base.specs.declared.lexeme.Items.{Items}
 use Rattle.hr_rules.specs.Names.{is_one_of, is_spelled}
-use Rattle.hr_tree.specs.declared.types.Ty.{Ty}
-use Rattle.hr_tree.specs.declared.patterns.Pat.{Pat}
 use Rattle.hr_tree.specs.declared.modules.Module.{Module}
-use Rattle.hr_tree.specs.Yields.{ty_items, pat_items}
-use Rattle.hr_grammar.specs.Nodes.{TyPlace, PatPlace}
-use Rattle.hr_grammar.specs.Yields.{nodes, DeepYields}
+use Rattle.hr_tree.specs.Yields.{module_items}
+use Rattle.hr_grammar.specs.Yields.{IsModule}
 
 abbrev pub words_left_out : List (List ℕ)
 words_left_out = codes "class" ∷ codes "instance" ∷ codes "default" ∷ codes "deriving" ∷ codes "do" ∷ []
@@ -29,12 +25,6 @@ IsKept item = left_out item.lexeme.class item.lexeme.text ≡ false
 abbrev pub AreKept : List Item → Type 0
 AreKept = AllByRecursion IsKept
 
--- no lexeme of a type or a pattern is left out
-abbrev pub TypesAndPatternsKept : Type 0
-TypesAndPatternsKept =
-    ((levels : ℕ) (place : TyPlace) (ty : Ty) → (nodes levels).ty place ty → AreKept (ty_items ty))
-    × ((levels : ℕ) (place : PatPlace) (pat : Pat) → (nodes levels).pat place pat → AreKept (pat_items pat))
-
--- nor of any tree
+-- no lexeme of a tree is left out, however deep its nodes nest
 abbrev pub LeftOutStandsNowhere : Type 0
-LeftOutStandsNowhere = (tree : Module) (items : Items) → DeepYields tree items → AreKept items.list
+LeftOutStandsNowhere = (levels : ℕ) (tree : Module) → IsModule levels tree → AreKept (module_items tree)

@@ -1,5 +1,6 @@
 pub mod Blocks
 pub mod Declarations
+pub mod Deep
 pub mod Expressions
 pub mod Firsts
 pub mod Imports

@@ -1,6 +1,5 @@
 -- The places of the grammar, and what may stand at them. A production is said over the nodes that stand
 -- one level deeper, so nothing here goes in a circle.
-use Rattle.std.specs.Prelude.{Bool}
 use Rattle.hr_tree.specs.declared.types.Ty.{Ty}
 use Rattle.hr_tree.specs.declared.patterns.Pat.{Pat}
 use Rattle.hr_tree.specs.declared.expressions.Exp.{Exp}
@@ -8,7 +7,7 @@ use Rattle.hr_tree.specs.declared.expressions.Decl.{Decl}
 use Rattle.hr_tree.specs.declared.expressions.Alt.{Alt}
 use Rattle.hr_tree.specs.declared.lists.Block.{Block}
 
--- of types: an atomic type, one side of an arrow or a constructor's operator, any type
+-- of types: an atomic type; the left side of an arrow, or either side of a constructor's operator; any type
 pub data TyPlace : Type 0 where
   Atomic : TyPlace
   Applied : TyPlace
@@ -36,12 +35,16 @@ pub data DeclPlace : Type 0 where
   Top : DeclPlace
   Local : DeclPlace
 
--- what may stand where. Of an expression the mark says whether `::` may stand in it outside of brackets and
--- blocks, as it may not in a guard
+-- whether `::` may stand in an expression outside of brackets and blocks: in a guard it may not
+pub data Colons : Type 0 where
+  Allowed : Colons
+  Barred : Colons
+
+-- what may stand where
 pub record Nodes : Type 1 where
   pub ty : TyPlace → Ty → Type 0
   pub pat : PatPlace → Pat → Type 0
-  pub exp : Bool → ExpPlace → Exp → Type 0
+  pub exp : Colons → ExpPlace → Exp → Type 0
   pub decl : DeclPlace → Decl → Type 0
   pub alt : Alt → Type 0
   pub declarations : DeclPlace → Block Decl → Type 0

@@ -1,7 +1,7 @@
--- Trees that are equal up to trivia, empty parts of blocks and the `;` beside them (Haskell 98 Report, section
--- 2.7: the layout rule puts in what an implicit block does not have). The columns of implicit blocks are
--- places, and are not compared either.
-use Rattle.std.specs.Prelude.{◌≡◌, List, [], ◌∷◌, map, option_map}
+-- Trees that are equal up to trivia, empty parts of blocks and the `;` of implicit ones (Haskell 98 Report, section
+-- 2.7: the layout rule puts in what an implicit block does not have). The columns of implicit blocks are places, and
+-- are not compared either.
+use Rattle.std.specs.Prelude.{◌≡◌, ◌≢◌, Bool, true, false, List, [], ◌∷◌, map, option_map}
 use Rattle.hr_base.specs.declared.lexeme.Item.{Item}
 use Rattle.hr_tree.specs.declared.names.Variable.{Variable}
 use Rattle.hr_tree.specs.declared.names.Constructor.{Constructor}
@@ -75,11 +75,23 @@ bare_operands {T} = map (λ (operand : Operand T). record { minus = option_map b
 abbrev pub bare_field : {T : Type 0} → Field T → Field T
 bare_field field = record { name = bare_variable field.name; equals = bare field.equals; part = field.part }
 
--- of the pieces of a block, the parts; an empty part is none, and its `;` goes with it
+-- of the pieces of an implicit block, the parts: the layout rule puts the `;` between them
 abbrev pub parts_alone : {T : Type 0} → List (Piece T) → List (Piece T)
 parts_alone [] = []
 parts_alone (Piece.Semicolon item ∷ pieces) = parts_alone pieces
 parts_alone (Piece.Part part ∷ pieces) = Piece.Part part ∷ parts_alone pieces
+
+-- of those of a block in braces, the parts with one `;` between two of them: an empty part is none, and its `;` goes
+-- with it. The mark says whether a part stands before the pieces
+abbrev pub parts_divided : {T : Type 0} → Bool → List (Piece T) → List (Piece T)
+parts_divided begun [] = []
+parts_divided begun (Piece.Part part ∷ pieces) = Piece.Part part ∷ parts_divided true pieces
+parts_divided true (Piece.Semicolon item ∷ (Piece.Part part ∷ pieces)) = Piece.Semicolon (bare item) ∷ (Piece.Part part ∷ parts_divided true pieces)
+parts_divided begun (Piece.Semicolon item ∷ pieces) = parts_divided begun pieces
+
+abbrev pub bare_pieces : {T : Type 0} → Layout → List (Piece T) → List (Piece T)
+bare_pieces (Layout.Implicit col) pieces = parts_alone pieces
+bare_pieces (Layout.Explicit left right) pieces = parts_divided false pieces
 
 -- an implicit block stays one, and a block in braces stays one
 abbrev pub bare_layout : Layout → Layout
@@ -87,7 +99,7 @@ bare_layout (Layout.Implicit col) = Layout.Implicit 0
 bare_layout (Layout.Explicit left right) = Layout.Explicit (bare left) (bare right)
 
 abbrev pub bare_block : {T : Type 0} → Block T → Block T
-bare_block block = record { layout = bare_layout block.layout; pieces = parts_alone block.pieces }
+bare_block block = record { layout = bare_layout block.layout; pieces = bare_pieces block.layout block.pieces }
 
 abbrev pub bare_body : {T : Type 0} → Body T → Body T
 bare_body (Body.Plain mark body) = Body.Plain (bare mark) body
@@ -229,20 +241,20 @@ bare_decl =
 abbrev pub bare_header : Header → Header
 bare_header header = record { word = bare header.word; name = bare header.name; exports = option_map (bare_names bare_export) header.exports; opening = bare header.opening }
 
-abbrev pub bare_pieces : List (Piece Decl) → List (Piece Decl)
-bare_pieces [] = []
-bare_pieces (Piece.Semicolon item ∷ pieces) = bare_pieces pieces
-bare_pieces (Piece.Part decl ∷ pieces) = Piece.Part (bare_decl decl) ∷ bare_pieces pieces
+-- a piece of a module's body, whose parts are not bare yet
+abbrev pub bare_piece : Piece Decl → Piece Decl
+bare_piece (Piece.Semicolon item) = Piece.Semicolon item
+bare_piece (Piece.Part decl) = Piece.Part (bare_decl decl)
 
--- the tree without trivia, columns, and the `;` of its blocks
+-- the tree without trivia, columns, empty parts, and the `;` of its implicit blocks
 abbrev pub bare_module : Module → Module
 bare_module tree = record {
   header = option_map bare_header tree.header;
-  body = record { layout = bare_layout tree.body.layout; pieces = bare_pieces tree.body.pieces };
+  body = bare_block (record { layout = tree.body.layout; pieces = map bare_piece tree.body.pieces });
   tail = [];
 }
 
--- the trees differ in trivia, columns, empty parts and `;` alone
+-- the trees differ in trivia, columns, empty parts and the `;` of implicit blocks alone
 abbrev pub SameTrees : Module → Module → Type 0
 SameTrees tree other = bare_module tree ≡ bare_module other
 
@@ -252,3 +264,12 @@ SameIsEquality =
     ((tree : Module) → SameTrees tree tree)
     × (((tree other : Module) → SameTrees tree other → SameTrees other tree)
     × ((tree other third : Module) → SameTrees tree other → SameTrees other third → SameTrees tree third))
+
+-- in braces a `;` more is an empty part more, and no `;` is not one
+pub record SemicolonsInBraces : Type 0 where
+  pub more : (left right semicolon other : Item) (first second : Decl)
+      → bare_block (record { layout = Layout.Explicit left right; pieces = Piece.Semicolon other ∷ (Piece.Part first ∷ (Piece.Semicolon other ∷ (Piece.Semicolon semicolon ∷ (Piece.Part second ∷ (Piece.Semicolon other ∷ []))))) })
+      ≡ bare_block (record { layout = Layout.Explicit left right; pieces = Piece.Part first ∷ (Piece.Semicolon semicolon ∷ (Piece.Part second ∷ [])) })
+  pub none : (left right semicolon : Item) (first second : Decl)
+      → bare_block (record { layout = Layout.Explicit left right; pieces = Piece.Part first ∷ (Piece.Part second ∷ []) })
+      ≢ bare_block (record { layout = Layout.Explicit left right; pieces = Piece.Part first ∷ (Piece.Semicolon semicolon ∷ (Piece.Part second ∷ [])) })

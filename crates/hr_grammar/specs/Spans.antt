@@ -51,8 +51,8 @@ pub record Laid : Type 0 where
   pub blocks : ℕ → ℕ → List Span
 
 -- lexemes without a block
-abbrev pub bare : List Item → Laid
-bare items = record { extent = length items; ending = Ending.Applied true false; blocks = λ m start. [] }
+abbrev pub blockless : List Item → Laid
+blockless items = record { extent = length items; ending = Ending.Applied true false; blocks = λ m start. [] }
 
 -- one stretch behind another: it ends as the second one does, if that has a lexeme
 infixr 6 ◌▷◌
@@ -64,23 +64,23 @@ first ▷ second = record {
 }
 
 abbrev pub row : List Laid → Laid
-row [] = bare []
+row [] = blockless []
 row (laid ∷ rest) = laid ▷ row rest
 
 abbrev pub ending_as : Ending → Laid → Laid
 ending_as ending laid = record { extent = laid.extent; ending = ending; blocks = laid.blocks }
 
 abbrev pub one : Item → Laid
-one item = bare (item ∷ [])
+one item = blockless (item ∷ [])
 
 abbrev pub listed_laid : Listed Laid → Laid
-listed_laid listed = listed.part ▷ bare (maybe_item listed.separator)
+listed_laid listed = listed.part ▷ blockless (maybe_item listed.separator)
 
 abbrev pub operand_laid : Operand Laid → Laid
-operand_laid operand = bare (maybe_item operand.minus) ▷ operand.part ▷ bare (maybe_operator operand.operator)
+operand_laid operand = blockless (maybe_item operand.minus) ▷ operand.part ▷ blockless (maybe_operator operand.operator)
 
 abbrev pub field_laid : Field Laid → Laid
-field_laid field = bare (variable_items field.name) ▷ one field.equals ▷ field.part
+field_laid field = blockless (variable_items field.name) ▷ one field.equals ▷ field.part
 
 abbrev pub piece_laid : Piece Laid → Laid
 piece_laid (Piece.Semicolon item) = ending_as Ending.Nothing (one item)
@@ -103,9 +103,9 @@ last_ending (piece ∷ (next ∷ rest)) = last_ending (next ∷ rest)
 
 abbrev pub block_laid : BlockKind → Block Laid → Laid
 block_laid kind block =
-    let left = bare (opening_items block.layout) in
+    let left = blockless (opening_items block.layout) in
     let inside = row (map piece_laid block.pieces) in
-    let whole = left ▷ inside ▷ bare (closing_items block.layout) in
+    let whole = left ▷ inside ▷ blockless (closing_items block.layout) in
     record {
       extent = whole.extent;
       ending = Ending.Closed true false;
@@ -134,8 +134,8 @@ right_side_laid body None = body_laid body
 right_side_laid body (Some locals) = ending_as Ending.WhereBlock (body_laid body ▷ one locals.word ▷ block_laid BlockKind.Declarations locals.block)
 
 abbrev pub exp_laid : Exp-F Laid Laid Laid Laid → Laid
-exp_laid (Exp-F.Variable variable) = bare (variable_items variable)
-exp_laid (Exp-F.Constructor constructor) = bare (constructor_items constructor)
+exp_laid (Exp-F.Variable variable) = blockless (variable_items variable)
+exp_laid (Exp-F.Constructor constructor) = blockless (constructor_items constructor)
 exp_laid (Exp-F.Literal literal) = one literal
 exp_laid (Exp-F.Group left part right) = one left ▷ part ▷ one right
 exp_laid (Exp-F.Tuple left parts right) = one left ▷ row (map listed_laid parts) ▷ one right
@@ -145,36 +145,41 @@ exp_laid (Exp-F.FromThen left first comma second dots right) = one left ▷ firs
 exp_laid (Exp-F.FromTo left first dots last right) = one left ▷ first ▷ one dots ▷ last ▷ one right
 exp_laid (Exp-F.FromThenTo left first comma second dots last right) = one left ▷ first ▷ one comma ▷ second ▷ one dots ▷ last ▷ one right
 exp_laid (Exp-F.Comprehension left part bar qualifiers right) = one left ▷ part ▷ one bar ▷ row (map listed_laid qualifiers) ▷ one right
-exp_laid (Exp-F.LeftSection left part operator right) = one left ▷ part ▷ bare (operator_items operator) ▷ one right
-exp_laid (Exp-F.RightSection left operator part right) = one left ▷ bare (operator_items operator) ▷ part ▷ one right
+exp_laid (Exp-F.LeftSection left part operator right) = one left ▷ part ▷ blockless (operator_items operator) ▷ one right
+exp_laid (Exp-F.RightSection left operator part right) = one left ▷ blockless (operator_items operator) ▷ part ▷ one right
 exp_laid (Exp-F.Apply atoms) = row atoms
 exp_laid (Exp-F.Infix operands) = row (map operand_laid operands)
-exp_laid (Exp-F.Annotated part colons ty) = ending_as (Ending.Annotated true false) (part ▷ one colons ▷ bare (ty_items ty))
-exp_laid (Exp-F.Lambda mark patterns arrow body) = one mark ▷ bare (flat_map pat_items patterns) ▷ one arrow ▷ body
+exp_laid (Exp-F.Annotated part colons ty) = ending_as (Ending.Annotated true false) (part ▷ one colons ▷ blockless (ty_items ty))
+exp_laid (Exp-F.Lambda mark patterns arrow body) = one mark ▷ blockless (flat_map pat_items patterns) ▷ one arrow ▷ body
 exp_laid (Exp-F.Let word block in_word body) = one word ▷ block_laid BlockKind.Declarations block ▷ one in_word ▷ body
 exp_laid (Exp-F.If word test then_word first else_word second) = one word ▷ test ▷ one then_word ▷ first ▷ one else_word ▷ second
 exp_laid (Exp-F.Case word part of_word block) = ending_as (Ending.Closed true false) (one word ▷ part ▷ one of_word ▷ block_laid BlockKind.Alternatives block)
-exp_laid (Exp-F.Fields part left fields right) = part ▷ one left ▷ row (map (λ (l : Listed (Field Laid)). field_laid l.part ▷ bare (maybe_item l.separator)) fields) ▷ one right
+exp_laid (Exp-F.Fields part left fields right) = part ▷ one left ▷ row (map (λ (l : Listed (Field Laid)). field_laid l.part ▷ blockless (maybe_item l.separator)) fields) ▷ one right
+
+-- how a declaration ends that stands in a module's body alone: as what nothing can follow, since nothing stands behind
+-- that body
+abbrev pub top_ending : Ending
+top_ending = Ending.WhereBlock
 
 abbrev pub decl_laid : Decl-F Laid Laid Laid Laid → Laid
-decl_laid (Decl-F.Import import) = ending_as Ending.Nothing (bare (import_items import))
-decl_laid (Decl-F.Synonym word head equals ty) = ending_as Ending.Nothing (one word ▷ bare (type_head_items head) ▷ one equals ▷ bare (ty_items ty))
+decl_laid (Decl-F.Import import) = ending_as top_ending (blockless (import_items import))
+decl_laid (Decl-F.Synonym word head equals ty) = ending_as top_ending (one word ▷ blockless (type_head_items head) ▷ one equals ▷ blockless (ty_items ty))
 decl_laid (Decl-F.Data word head equals constructions) =
-    ending_as Ending.Nothing (one word ▷ bare (type_head_items head) ▷ one equals ▷ bare (flat_map (listed_items construction_items) constructions))
+    ending_as top_ending (one word ▷ blockless (type_head_items head) ▷ one equals ▷ blockless (flat_map (listed_items construction_items) constructions))
 decl_laid (Decl-F.Newtype word head equals construction) =
-    ending_as Ending.Nothing (one word ▷ bare (type_head_items head) ▷ one equals ▷ bare (construction_items construction))
-decl_laid (Decl-F.Signature names colons ty) = ending_as Ending.Signature (bare (flat_map (listed_items variable_items) names) ▷ one colons ▷ bare (ty_items ty))
-decl_laid (Decl-F.Fixity word level operators) = ending_as Ending.Fixity (one word ▷ bare (maybe_item level) ▷ bare (flat_map (listed_items operator_items) operators))
-decl_laid (Decl-F.Equation left body locals) = bare (left_side_items left) ▷ right_side_laid body locals
-decl_laid (Decl-F.Binding pattern body locals) = bare (pat_items pattern) ▷ right_side_laid body locals
+    ending_as top_ending (one word ▷ blockless (type_head_items head) ▷ one equals ▷ blockless (construction_items construction))
+decl_laid (Decl-F.Signature names colons ty) = ending_as Ending.Signature (blockless (flat_map (listed_items variable_items) names) ▷ one colons ▷ blockless (ty_items ty))
+decl_laid (Decl-F.Fixity word level operators) = ending_as Ending.Fixity (one word ▷ blockless (maybe_item level) ▷ blockless (flat_map (listed_items operator_items) operators))
+decl_laid (Decl-F.Equation left body locals) = blockless (left_side_items left) ▷ right_side_laid body locals
+decl_laid (Decl-F.Binding pattern body locals) = blockless (pat_items pattern) ▷ right_side_laid body locals
 
 abbrev pub qualifier_laid : Qualifier-F Laid Laid Laid Laid → Laid
-qualifier_laid (Qualifier-F.Generator pattern arrow part) = bare (pat_items pattern) ▷ one arrow ▷ part
+qualifier_laid (Qualifier-F.Generator pattern arrow part) = blockless (pat_items pattern) ▷ one arrow ▷ part
 qualifier_laid (Qualifier-F.Locals word block) = one word ▷ block_laid BlockKind.Declarations block
 qualifier_laid (Qualifier-F.Test part) = part
 
 abbrev pub alt_laid : Alt-F Laid Laid Laid Laid → Laid
-alt_laid alt = bare (pat_items alt.pattern) ▷ right_side_laid alt.body alt.locals
+alt_laid alt = blockless (pat_items alt.pattern) ▷ right_side_laid alt.body alt.locals
 
 abbrev pub laid_of : Decl → Laid
 laid_of = fold-Decl Laid Laid Laid Laid decl_laid exp_laid qualifier_laid alt_laid
@@ -186,4 +191,4 @@ piece_of (Piece.Part decl) = Piece.Part (laid_of decl)
 -- the blocks of a module, its body first
 abbrev pub spans_of : Module → List Span
 spans_of tree =
-    (bare (header_items tree.header) ▷ block_laid BlockKind.Body (record { layout = tree.body.layout; pieces = map piece_of tree.body.pieces })).blocks 0 0
+    (blockless (header_items tree.header) ▷ block_laid BlockKind.Body (record { layout = tree.body.layout; pieces = map piece_of tree.body.pieces })).blocks 0 0

@@ -4,7 +4,6 @@ use Rattle.std.specs.Prelude.{ℕ, ◌≡◌, ◌+◌, List, [], ◌∷◌, Opti
 use lib.Chars.{codes}
 use Rattle.hr_base.specs.declared.lexeme.Class.{Class}
 use Rattle.hr_base.specs.declared.lexeme.Item.{Item}
-use Rattle.hr_base.specs.declared.lexeme.Items.{Items}
 use Rattle.hr_rules.specs.Lexing.{joined}
 use Rattle.hr_tree.specs.declared.names.Variable.{Variable as Named}
 use Rattle.hr_tree.specs.declared.names.Constructor.{Constructor as Built}
@@ -24,7 +23,7 @@ use Rattle.hr_tree.specs.declared.expressions.Decl.TheVariants.{Binding}
 use Rattle.hr_tree.specs.declared.expressions.Qualifier.TheVariants.{Generator}
 use Rattle.hr_tree.specs.declared.modules.Module.{Module}
 use Rattle.hr_tree.specs.Yields.{items_of, module_items}
-use Rattle.hr_grammar.specs.Yields.{IsModule, nesting_limit, DeepYields}
+use Rattle.hr_grammar.specs.Yields.{IsModule, nesting_limit}
 use Rattle.hr_grammar.specs.Spans.{Span, spans_of}
 use Rattle.hr_grammar.specs.Offside.{Offside}
 
@@ -143,7 +142,7 @@ behind_blocks spans items = map (λ (span : Span). next_text (drop (span.start +
 
 -- a tree with the text that it is the tree of, and with the lexemes that end its blocks: it is a tree of the
 -- grammar, and stands as the layout rule says
-pub record Stands (tree : Module) (text : List ℕ) (ends : List (Option (List ℕ))) : Type 0 where
+pub record IsWorked (tree : Module) (text : List ℕ) (ends : List (Option (List ℕ))) : Type 0 where
   pub grammar : IsModule nesting_limit tree
   pub offside : Offside tree
   pub spelled : joined (items_of tree).list (items_of tree).tail ≡ text
@@ -152,39 +151,12 @@ pub record Stands (tree : Module) (text : List ℕ) (ends : List (Option (List �
 -- the body of each of these modules ends with the text; the blocks in it end before the lexeme that is named
 abbrev pub WorkedTrees : Type 0
 WorkedTrees =
-    Stands (defines (codes "a") case_in_tuple) (codes "a = (case x of y -> 1, 2)") (None ∷ Some (codes ",") ∷ [])
-    × (Stands (defines (codes "a") case_in_comprehension) (codes "a = [case x of y -> 1 : [] | y <- z]") (None ∷ Some (codes "|") ∷ [])
-    × (Stands (defines (codes "a") case_in_sequence) (codes "a = [case x of y -> 1 ..]") (None ∷ Some (codes "..") ∷ [])
-    × (Stands (defines (codes "a") case_in_if) (codes "a = if case x of y -> y then 1 else 2") (None ∷ Some (codes "then") ∷ [])
-    × (Stands (defines (codes "a") case_in_case) (codes "a = case case x of y -> y of z -> z") (None ∷ Some (codes "of") ∷ None ∷ [])
-    × (Stands (defines (codes "a") annotated_in_let) (codes "a = let b = 1 :: Int in b") (None ∷ Some (codes "in") ∷ [])
-    × (Stands (defines (codes "a") where_in_let) (codes "a = let b = c where c = 1 in b") (None ∷ Some (codes "in") ∷ Some (codes "in") ∷ [])
-    × (Stands (defines (codes "x") sum_behind_case) (codes "x = (case a of A -> 1 :: T + 2)") (None ∷ Some (codes "+") ∷ [])
-    × Stands (defines (codes "a") section_of_lambda) (codes "a = (\\x -> x +)") (None ∷ []))))))))
-
--- `a = \x -> x + 1`, with the lambda as the left operand of the `+`
-abbrev pub lambda_before_plus : Exp
-lambda_before_plus = Infix (record {
-  minus = None;
-  part = Lambda (mark (codes "\\")) (Bound (name [] (codes "x")) ∷ []) (mark (codes "->")) (variable (codes "x"));
-  operator = Some (Operator.Symbol (item Class.VarSym (codes " ") (codes "+")));
-} ∷ record { minus = None; part = number (codes "1"); operator = None } ∷ [])
-
--- this is a tree of no items, however deep nodes may nest
-abbrev pub LambdaBeforePlusYieldsNothing : Type 0
-LambdaBeforePlusYieldsNothing = (items : Items) → DeepYields (defines (codes "a") lambda_before_plus) items → ⊥
-
--- `a :: b :: c` is the text of no tree, however deep nodes may nest and whatever blanks stand between
-abbrev pub TwiceAnnotatedHasNoTree : Type 0
-TwiceAnnotatedHasNoTree = (first second third fourth fifth tail : List ℕ) (tree : Module)
-    → DeepYields tree (record {
-      list = item Class.VarId first (codes "a") ∷ item Class.ReservedOp second (codes "::") ∷ item Class.VarId third (codes "b") ∷ item Class.ReservedOp fourth (codes "::") ∷ item Class.VarId fifth (codes "c") ∷ [];
-      tail = tail;
-    })
-    → ⊥
-
--- `f = class` is the text of no tree
-abbrev pub ClassHasNoTree : Type 0
-ClassHasNoTree = (first second third tail : List ℕ) (tree : Module)
-    → DeepYields tree (record { list = item Class.VarId first (codes "f") ∷ item Class.ReservedOp second (codes "=") ∷ item Class.ReservedId third (codes "class") ∷ []; tail = tail })
-    → ⊥
+    IsWorked (defines (codes "a") case_in_tuple) (codes "a = (case x of y -> 1, 2)") (None ∷ Some (codes ",") ∷ [])
+    × (IsWorked (defines (codes "a") case_in_comprehension) (codes "a = [case x of y -> 1 : [] | y <- z]") (None ∷ Some (codes "|") ∷ [])
+    × (IsWorked (defines (codes "a") case_in_sequence) (codes "a = [case x of y -> 1 ..]") (None ∷ Some (codes "..") ∷ [])
+    × (IsWorked (defines (codes "a") case_in_if) (codes "a = if case x of y -> y then 1 else 2") (None ∷ Some (codes "then") ∷ [])
+    × (IsWorked (defines (codes "a") case_in_case) (codes "a = case case x of y -> y of z -> z") (None ∷ Some (codes "of") ∷ None ∷ [])
+    × (IsWorked (defines (codes "a") annotated_in_let) (codes "a = let b = 1 :: Int in b") (None ∷ Some (codes "in") ∷ [])
+    × (IsWorked (defines (codes "a") where_in_let) (codes "a = let b = c where c = 1 in b") (None ∷ Some (codes "in") ∷ Some (codes "in") ∷ [])
+    × (IsWorked (defines (codes "x") sum_behind_case) (codes "x = (case a of A -> 1 :: T + 2)") (None ∷ Some (codes "+") ∷ [])
+    × IsWorked (defines (codes "a") section_of_lambda) (codes "a = (\\x -> x +)") (None ∷ []))))))))

@@ -4,7 +4,6 @@ use Rattle.std.specs.Prelude.{ℕ, zero, suc, ◌≡◌, ◌++◌, List, Option,
 use Rattle.std.specs.List.{AllByRecursion}
 use lib.Chars.{codes}
 use Rattle.hr_base.specs.declared.lexeme.Class.{Class}
-use Rattle.hr_base.specs.declared.lexeme.Item.{Item}
 use Rattle.hr_base.specs.declared.lexeme.Items.{Items}
 use Rattle.hr_tree.specs.declared.lists.Block.{Block}
 use Rattle.hr_tree.specs.declared.lists.Piece.{Piece}
@@ -12,7 +11,7 @@ use Rattle.hr_tree.specs.declared.expressions.Decl.{Decl}
 use Rattle.hr_tree.specs.declared.expressions.Alt.{Alt}
 use Rattle.hr_tree.specs.declared.modules.Header.{Header}
 use Rattle.hr_tree.specs.declared.modules.Module.{Module}
-use Rattle.hr_tree.specs.Yields.{items_of, module_items}
+use Rattle.hr_tree.specs.Yields.{items_of}
 use Rattle.hr_grammar.specs.Words.{IsOf, IsWord}
 use Rattle.hr_grammar.specs.Nodes.{Nodes, no_nodes, DeclPlace}
 use Rattle.hr_grammar.specs.Types.{IsTyOver}
@@ -63,12 +62,3 @@ nesting_limit = 256
 pub record Yields (tree : Module) (items : Items) : Type 0 where
   pub grammar : IsModule nesting_limit tree
   pub items_are : items_of tree ≡ items
-
--- without the limit on nesting
-pub record DeepYields (tree : Module) (items : Items) : Type 0 where
-  pub grammar : (levels : ℕ) × IsModule levels tree
-  pub items_are : items_of tree ≡ items
-
--- the tree begins with the items
-abbrev pub BeginsWith : Module → List Item → Type 0
-BeginsWith tree items = (rest : List Item) × (module_items tree ≡ items ++ rest)

@@ -1,19 +1,25 @@
 //! Laws of the definitions, which the proof of the parser goes by.
+ghost use Rattle.hr_grammar.specs.Deep.{StuckAtOnePlace, WithinIsDeep};
 ghost use Rattle.hr_grammar.specs.Firsts.{AlternativesBegin, DeclarationsBegin, ExpressionsBegin, PatternsBegin, TypesBegin};
 ghost use Rattle.hr_grammar.specs.Joins.{PartsStand, YieldsJoin};
-ghost use Rattle.hr_grammar.specs.LeftOut.{LeftOutStandsNowhere, TypesAndPatternsKept};
-ghost use Rattle.hr_grammar.specs.Laws.{LambdaIsNoLeftOperand, NoAnnotatedGuard, OneAnnotation, OneYield, OpenIsLast, OpenIsUnannotated, ReadIsJoined, WithinIsDeep};
-ghost use Rattle.hr_grammar.specs.SameTrees.{SameIsEquality};
-ghost use Rattle.hr_grammar.specs.Worked.{ClassHasNoTree, LambdaBeforePlusYieldsNothing, TwiceAnnotatedHasNoTree, WorkedTrees};
+ghost use Rattle.hr_grammar.specs.LeftOut.{LeftOutStandsNowhere};
+ghost use Rattle.hr_grammar.specs.Laws.{NoAnnotatedGuard, OneAnnotation, OneYield, OpenIsLast, OpenIsUnannotated, ReadIsJoined};
+ghost use Rattle.hr_grammar.specs.SameTrees.{SameIsEquality, SemicolonsInBraces};
+ghost use Rattle.hr_grammar.specs.Worked.{WorkedTrees};
 
 /// A tree yields one list of items at most.
 pub fn one_yield()
     ensures { OneYield }
 {}
 
-/// A tree of the grammar within the limit on nesting is one without it.
+/// A tree within the limit on nesting that stands as the layout rule says is a deep one.
 pub fn within_is_deep()
     ensures { WithinIsDeep }
+{}
+
+/// Among some items there is one place at most at which no deep tree goes on.
+pub fn stuck_at_one_place()
+    ensures { StuckAtOnePlace }
 {}
 
 /// What reads as a tree is the tree's items, joined: a tree has one text at most.
@@ -24,11 +30,6 @@ pub fn read_is_joined()
 /// A lambda, `let` or `if` is no operand that an operator follows.
 pub fn open_is_last()
     ensures { OpenIsLast }
-{}
-
-/// A lambda is no operand of an infix sequence that another operand follows.
-pub fn lambda_is_no_left_operand()
-    ensures { LambdaIsNoLeftOperand }
 {}
 
 /// No `::` follows a lambda, `let` or `if` in the same expression.
@@ -72,13 +73,8 @@ pub fn alternatives_begin()
     ensures { AlternativesBegin }
 {}
 
-/// No lexeme of a type or a pattern is one that is left out of the language: `class`, `instance`, `default`,
-/// `deriving`, `do`, `=>` or a float.
-pub fn types_and_patterns_kept()
-    ensures { TypesAndPatternsKept }
-{}
-
-/// Nor is any lexeme of a tree, however deep its nodes nest.
+/// No lexeme of a tree, however deep its nodes nest, is one that is left out of the language: `class`, `instance`,
+/// `default`, `deriving`, `do`, `=>` or a float.
 pub fn left_out_stands_nowhere()
     ensures { LeftOutStandsNowhere }
 {}
@@ -91,25 +87,16 @@ pub fn worked_trees()
     ensures { WorkedTrees }
 {}
 
-/// Equality of trees up to trivia, empty parts and `;` is an equality: each tree is the same as itself,
+/// Equality of trees up to trivia, empty parts and the `;` of implicit blocks is an equality: each tree is the same as itself,
 /// and it goes both ways and along.
 pub fn same_is_equality()
     ensures { SameIsEquality }
 {}
 
-/// The tree of `a = \x -> x + 1` with the lambda as the left operand of the `+` is a tree of no items.
-pub fn lambda_before_plus_yields_nothing()
-    ensures { LambdaBeforePlusYieldsNothing }
-{}
-
-/// No tree yields the lexemes of `a :: b :: c`, whatever blanks stand between them.
-pub fn twice_annotated_has_no_tree()
-    ensures { TwiceAnnotatedHasNoTree }
-{}
-
-/// No tree yields the lexemes of `f = class`.
-pub fn class_has_no_tree()
-    ensures { ClassHasNoTree }
+/// Of trees that are equal so, a block in braces may have a `;` more, as an empty part, but none less between two
+/// parts.
+pub fn semicolons_in_braces()
+    ensures { SemicolonsInBraces }
 {}
 
 /// What a tree yields is what its parts yield, one part behind the other.

@@ -13,7 +13,7 @@ use Rattle.hr_tree.specs.Lists.{piece_items, block_items, opening_items, closing
 use Rattle.hr_grammar.specs.Words.{IsLeftBrace, IsRightBrace, IsSemicolon}
 use Rattle.hr_grammar.specs.Nodes.{DeclPlace}
 use Rattle.hr_grammar_cases.specs.Readings.{Reading}
-use Rattle.hr_grammar_cases.specs.Blocks.{Parts, takes_semicolon, stops, starts, part_then, pieces_reading, braced_reading, implicit_reading, layout_reading, block_reading}
+use Rattle.hr_grammar_cases.specs.Blocks.{Parts, takes_semicolon, ends_here, starts, part_then, pieces_reading, braced_reading, implicit_reading, layout_reading, block_reading}
 use Rattle.hr_grammar_cases.specs.Laws.{items_left, AreLeft, Gives}
 use Rattle.hr_grammar_cases.proofs.Readings.{append_nothing, same_gives, nothing_gives, then_gives, given_gives, one_gives}
 
@@ -33,8 +33,8 @@ semicolon_leaves n item (next ∷ ts) us h = inl h.2
 semicolon_gives : (n : ℕ) (item : Item) → Gives (item ∷ []) (takes_semicolon n item)
 semicolon_gives n item = record { gives = semicolon_items n item; leaves = semicolon_leaves n item }
 
-stops_gives : (kind : BlockKind) (n : ℕ) (ending : Ending) → Gives [] (stops kind n ending)
-stops_gives kind n ending = record { gives = λ ts us r. ap items_left (sym r.1); leaves = λ ts us r. inl r.1 }
+ends_here_gives : (kind : BlockKind) (n : ℕ) (ending : Ending) → Gives [] (ends_here kind n ending)
+ends_here_gives kind n ending = record { gives = λ ts us r. ap items_left (sym r.1); leaves = λ ts us r. inl r.1 }
 
 starts_gives : (n : ℕ) (ending : Ending) → Gives [] (starts n ending)
 starts_gives n ending = record { gives = λ ts us r. sym (marked false ts) ∙ ap items_left (sym r.1); leaves = λ ts us r. inr (false, r.1) }
@@ -49,7 +49,7 @@ PartsGive {T} items_of parts = (n : ℕ) (place next : DeclPlace) (part : T) (en
 
 pieces_give : {T : Type 0} (items_of : T → List Item) (parts : Parts T) → PartsGive items_of parts
     → (kind : BlockKind) (n : ℕ) (place : DeclPlace) (ending : Ending) (pieces : List (Piece T)) → Gives (flat_map (piece_items items_of) pieces) (pieces_reading parts kind n place ending pieces)
-pieces_give items_of parts each kind n place ending [] = stops_gives kind n ending
+pieces_give items_of parts each kind n place ending [] = ends_here_gives kind n ending
 pieces_give items_of parts each kind n place ending (Piece.Semicolon item ∷ pieces) =
     then_gives (given_gives (IsSemicolon item) (semicolon_gives n item)) (pieces_give items_of parts each kind n place Ending.Nothing pieces)
 pieces_give items_of parts each kind n place ending (Piece.Part part ∷ pieces) =

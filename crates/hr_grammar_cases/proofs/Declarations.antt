@@ -22,9 +22,9 @@ use Rattle.hr_tree.specs.Yields.{construction_items, decl_layer, exp_layer, qual
 use Rattle.hr_tree.proofs.ExpressionYields.{decl_equation, decl_binding, alt_whole}
 use Rattle.hr_grammar.specs.Words.{IsOf, IsWord, IsEquals, IsArrow, IsBar, IsComma, IsDoubleColon}
 use Rattle.hr_grammar.specs.Spelled.{IsVariable, IsOwnOperator}
-use Rattle.hr_grammar.specs.Nodes.{TyPlace, PatPlace, ExpPlace, DeclPlace}
+use Rattle.hr_grammar.specs.Nodes.{Colons, TyPlace, PatPlace, ExpPlace, DeclPlace}
 use Rattle.hr_grammar.specs.Declarations.{fixity_words, IsDigit, takes_import, takes_top, takes_local}
-use Rattle.hr_grammar.specs.Spans.{part_ending}
+use Rattle.hr_grammar.specs.Spans.{part_ending, top_ending}
 use Rattle.hr_grammar_cases.specs.Derivations.{Derivations}
 use Rattle.hr_grammar_cases.specs.Declarations.{construction_reading, guarded_reading, guards_reading, body_reading, right_side_reading, decl_reading, decl_over, alt_over}
 use Rattle.hr_grammar_cases.specs.Laws.{Gives, AllGive}
@@ -37,7 +37,7 @@ guarded_gives : (below : Derivations) → AllGive below → (n : ℕ) (IsMark : 
     → Gives (guarded_items exp_items guarded) (guarded_reading below n IsMark guarded ending)
 guarded_gives below each n IsMark guarded ending =
     then_gives (one_gives n IsBar guarded.bar)
-    (then_gives (inside_gives (each.exp n false ExpPlace.Sequence guarded.guard)) (then_gives (one_gives n IsMark guarded.mark) (each.exp n true ExpPlace.Whole guarded.body ending)))
+    (then_gives (inside_gives (each.exp n Colons.Barred ExpPlace.Sequence guarded.guard)) (then_gives (one_gives n IsMark guarded.mark) (each.exp n Colons.Allowed ExpPlace.Whole guarded.body ending)))
 
 guards_give : (below : Derivations) → AllGive below → (n : ℕ) (IsMark : Item → Type 0) (list : List (Guarded Exp)) (ending : Ending)
     → Gives (flat_map (guarded_items exp_items) list) (guards_reading below n IsMark list ending)
@@ -50,7 +50,7 @@ guards_give below each n IsMark (guarded ∷ (next ∷ rest)) ending =
 body_gives : (below : Derivations) → AllGive below → (n : ℕ) (IsMark : Item → Type 0) (body : Body Exp) (ending : Ending)
     → Gives (body_items exp_items body) (body_reading below n IsMark body ending)
 body_gives below each n IsMark (Body.Plain mark body) ending =
-    ends_as_gives (part_ending false) (λ inner. then_gives (one_gives n IsMark mark) (each.exp n true ExpPlace.Whole body inner)) ending
+    ends_as_gives (part_ending false) (λ inner. then_gives (one_gives n IsMark mark) (each.exp n Colons.Allowed ExpPlace.Whole body inner)) ending
 body_gives below each n IsMark (Body.Guarded list) ending = ends_as_gives (part_ending true) (guards_give below each n IsMark list) ending
 
 right_side_gives : (below : Derivations) → AllGive below → (n : ℕ) (IsMark : Item → Type 0) (body : Body Exp) (locals : Option (Where Decl)) (ending : Ending)
@@ -64,19 +64,19 @@ right_side_gives below each n IsMark body (Some locals) ending =
 decl_gives : (below : Derivations) → AllTake below → AllGive below → (n : ℕ) (place : DeclPlace) (layer : Decl-F Decl Exp Qualifier Alt) (ending : Ending)
     → Gives (decl_items (roll-Decl layer)) (decl_reading below n place layer ending)
 decl_gives below takes each n place (Decl-F.Import import) ending =
-    same_gives (sym (fold-roll-Decl (List Item) (List Item) (List Item) (List Item) decl_layer exp_layer qualifier_layer alt_layer (Decl-F.Import import))) (given_gives ((ending ≡ Ending.WhereBlock) × (takes_import place ≡ true)) (taken_gives (import_takes n import)))
+    same_gives (sym (fold-roll-Decl (List Item) (List Item) (List Item) (List Item) decl_layer exp_layer qualifier_layer alt_layer (Decl-F.Import import))) (given_gives ((ending ≡ top_ending) × (takes_import place ≡ true)) (taken_gives (import_takes n import)))
 decl_gives below takes each n place (Decl-F.Synonym word head equals ty) ending =
     same_gives (sym (fold-roll-Decl (List Item) (List Item) (List Item) (List Item) decl_layer exp_layer qualifier_layer alt_layer (Decl-F.Synonym word head equals ty)))
-    (given_gives ((ending ≡ Ending.WhereBlock) × (takes_top place ≡ true))
+    (given_gives ((ending ≡ top_ending) × (takes_top place ≡ true))
     (then_gives (one_gives n (IsWord (codes "type")) word) (then_gives (taken_gives (type_head_takes n head)) (then_gives (one_gives n IsEquals equals) (each.ty n TyPlace.Whole ty)))))
 decl_gives below takes each n place (Decl-F.Data word head equals constructions) ending =
     same_gives (sym (fold-roll-Decl (List Item) (List Item) (List Item) (List Item) decl_layer exp_layer qualifier_layer alt_layer (Decl-F.Data word head equals constructions)))
-    (given_gives ((ending ≡ Ending.WhereBlock) × ((takes_top place ≡ true) × (constructions ≢ [])))
+    (given_gives ((ending ≡ top_ending) × ((takes_top place ≡ true) × (constructions ≢ [])))
     (then_gives (one_gives n (IsWord (codes "data")) word) (then_gives (taken_gives (type_head_takes n head)) (then_gives (one_gives n IsEquals equals)
     (separated_gives n IsBar construction_items (construction_reading below n) (λ construction. taken_gives (construction_takes below takes n construction)) constructions)))))
 decl_gives below takes each n place (Decl-F.Newtype word head equals construction) ending =
     same_gives (sym (fold-roll-Decl (List Item) (List Item) (List Item) (List Item) decl_layer exp_layer qualifier_layer alt_layer (Decl-F.Newtype word head equals construction)))
-    (given_gives ((ending ≡ Ending.WhereBlock) × (takes_top place ≡ true))
+    (given_gives ((ending ≡ top_ending) × (takes_top place ≡ true))
     (then_gives (one_gives n (IsWord (codes "newtype")) word) (then_gives (taken_gives (type_head_takes n head)) (then_gives (one_gives n IsEquals equals) (taken_gives (new_construction_takes below takes n construction))))))
 decl_gives below takes each n place (Decl-F.Signature names colons ty) ending =
     same_gives (sym (fold-roll-Decl (List Item) (List Item) (List Item) (List Item) decl_layer exp_layer qualifier_layer alt_layer (Decl-F.Signature names colons ty)))

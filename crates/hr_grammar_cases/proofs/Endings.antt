@@ -13,7 +13,7 @@ use Rattle.hr_tree.specs.declared.expressions.Alt.{Alt, out-Alt}
 use Rattle.hr_tree.specs.declared.expressions.Qualifier.{Qualifier}
 use Rattle.hr_tree.specs.declared.expressions.Decl.TheOpen.{Decl-F, Exp-F}
 use Rattle.hr_grammar.specs.Words.{IsEquals, IsArrow}
-use Rattle.hr_grammar.specs.Nodes.{ExpPlace, DeclPlace}
+use Rattle.hr_grammar.specs.Nodes.{Colons, ExpPlace, DeclPlace}
 use Rattle.hr_grammar.specs.Expressions.{last_operand}
 use Rattle.hr_grammar.specs.Spans.{part_ending}
 use Rattle.hr_grammar_cases.specs.Derivations.{Derivations}
@@ -42,13 +42,13 @@ annotated_ends ending e = some_is ending annotated e refl
 where_ends : (ending : Ending) → ending ≡ Ending.WhereBlock → ending ≢ Ending.Nothing
 where_ends ending e = some_is ending Ending.WhereBlock e refl
 
-operands_end : (read : Derivations) → EndingsAreSome read → (n : ℕ) (free : Bool) (last : ExpPlace) (operands : List (Operand Exp)) (ending : Ending) (ts us : List Placed)
+operands_end : (read : Derivations) → EndingsAreSome read → (n : ℕ) (free : Colons) (last : ExpPlace) (operands : List (Operand Exp)) (ending : Ending) (ts us : List Placed)
     → exp_operands read n free last operands ending ts us → ending ≢ Ending.Nothing
 operands_end read each n free last [] ending ts us r = elim r [ ]
 operands_end read each n free last (operand ∷ []) ending ts us r = each.exp n free last operand.part ending r.1.0 us r.1.2
 operands_end read each n free last (operand ∷ (next ∷ rest)) ending ts us r = operands_end read each n free last (next ∷ rest) ending r.2.2.0 us r.2.2.2
 
-exp_ends : (read : Derivations) → EndingsAreSome read → (n : ℕ) (free : Bool) (place : ExpPlace) (layer : Exp-F Decl Exp Qualifier Alt) (ending : Ending) (ts us : List Placed)
+exp_ends : (read : Derivations) → EndingsAreSome read → (n : ℕ) (free : Colons) (place : ExpPlace) (layer : Exp-F Decl Exp Qualifier Alt) (ending : Ending) (ts us : List Placed)
     → exp_reading read n free place layer ending ts us → ending ≢ Ending.Nothing
 exp_ends read each n free place (Exp-F.Apply atoms) ending ts us r = applied_ends ending r.0.0
 exp_ends read each n free place (Exp-F.Case word part of_word block) ending ts us r = closed_ends ending r.0.0
@@ -75,7 +75,7 @@ exp_ends read each n free place (Exp-F.RightSection left operator part right) en
 guards_end : (read : Derivations) → EndingsAreSome read → (n : ℕ) (IsMark : Item → Type 0) (list : List (Guarded Exp)) (ending : Ending) (ts us : List Placed)
     → guards_reading read n IsMark list ending ts us → ending ≢ Ending.Nothing
 guards_end read each n IsMark [] ending ts us r = elim r [ ]
-guards_end read each n IsMark (guarded ∷ []) ending ts us r = each.exp n true ExpPlace.Whole guarded.body ending r.2.2.0 us r.2.2.2
+guards_end read each n IsMark (guarded ∷ []) ending ts us r = each.exp n Colons.Allowed ExpPlace.Whole guarded.body ending r.2.2.0 us r.2.2.2
 guards_end read each n IsMark (guarded ∷ (next ∷ rest)) ending ts us r = guards_end read each n IsMark (next ∷ rest) ending r.0 us r.2
 
 -- a part ends in an empty part only if its body does
@@ -91,7 +91,7 @@ part_some guarded Ending.Fixity i = refl
 body_ends : (read : Derivations) → EndingsAreSome read → (n : ℕ) (IsMark : Item → Type 0) (body : Body Exp) (ending : Ending) (ts us : List Placed)
     → body_reading read n IsMark body ending ts us → ending ≢ Ending.Nothing
 body_ends read each n IsMark (Body.Plain mark body) ending ts us r =
-    some_is ending (part_ending false r.0) r.1 (part_some false r.0 (each.exp n true ExpPlace.Whole body r.0 r.2.0 us r.2.2))
+    some_is ending (part_ending false r.0) r.1 (part_some false r.0 (each.exp n Colons.Allowed ExpPlace.Whole body r.0 r.2.0 us r.2.2))
 body_ends read each n IsMark (Body.Guarded list) ending ts us r =
     some_is ending (part_ending true r.0) r.1 (part_some true r.0 (guards_end read each n IsMark list r.0 ts us r.2))
 

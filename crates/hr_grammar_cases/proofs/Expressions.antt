@@ -1,5 +1,5 @@
 -- An expression that is read takes its own items.
-use Rattle.std.proofs.Common.{◌≡◌, ◌≢◌, ℕ, Bool, true, List, [], ◌∷◌, ◌++◌, length, None, sym, ap, ◌∙◌}
+use Rattle.std.proofs.Common.{◌≡◌, ◌≢◌, ℕ, true, List, [], ◌∷◌, ◌++◌, length, None, sym, ap, ◌∙◌}
 use Rattle.std.specs.List.{flat_map}
 use lib.Chars.{codes}
 use Rattle.hr_base.specs.declared.lexeme.Ending.{Ending}
@@ -18,7 +18,7 @@ use Rattle.hr_tree.specs.Yields.{pat_items, decl_layer, exp_layer, qualifier_lay
 use Rattle.hr_tree.proofs.ExpressionYields.{exp_group, exp_tuple, exp_list, exp_from, exp_from_then, exp_from_to, exp_from_then_to, exp_comprehension, exp_left_section, exp_right_section, exp_apply, exp_infix, exp_annotated, exp_lambda, exp_let, exp_if, exp_case, qualifier_generator, qualifier_locals, qualifier_test}
 use Rattle.hr_grammar.specs.Words.{IsWord, IsReserved, IsLiteral, IsMinus, IsLeftParen, IsRightParen, IsLeftSquare, IsRightSquare, IsComma, IsBar, IsDots, IsArrow, IsBackArrow, IsDoubleColon}
 use Rattle.hr_grammar.specs.Spelled.{IsNamedVariable, IsConstructor, IsOperator, IsNoMinus, AreParts}
-use Rattle.hr_grammar.specs.Nodes.{TyPlace, PatPlace, ExpPlace, DeclPlace}
+use Rattle.hr_grammar.specs.Nodes.{Colons, TyPlace, PatPlace, ExpPlace, DeclPlace}
 use Rattle.hr_grammar.specs.Patterns.{HasTwo}
 use Rattle.hr_grammar.specs.Expressions.{takes_operand, takes_open, takes_infix, takes_annotation, last_operand, IsSequence}
 use Rattle.hr_grammar_cases.specs.Derivations.{Derivations}
@@ -38,7 +38,7 @@ operand_then o rest =
     ap (λ l. maybe_item o.minus ++ l) (sym (append_assoc (exp_items o.part) (maybe_operator o.operator) rest))
     ∙ sym (append_assoc (maybe_item o.minus) (exp_items o.part ++ maybe_operator o.operator) rest)
 
-operands_give : (below : Derivations) → AllGive below → (n : ℕ) (free : Bool) (last : ExpPlace) (operands : List (Operand Exp)) (ending : Ending)
+operands_give : (below : Derivations) → AllGive below → (n : ℕ) (free : Colons) (last : ExpPlace) (operands : List (Operand Exp)) (ending : Ending)
     → Gives (flat_map (operand_items exp_items) operands) (exp_operands below n free last operands ending)
 operands_give below each n free last [] ending = never_gives
 operands_give below each n free last (operand ∷ []) ending =
@@ -51,12 +51,12 @@ operands_give below each n free last (operand ∷ (next ∷ rest)) ending =
 qualifier_layer_gives : (below : Derivations) → AllGive below → (n : ℕ) (layer : Qualifier-F Decl Exp Qualifier Alt) → Gives (qualifier_items (roll-Qualifier layer)) (qualifier_reading below n layer)
 qualifier_layer_gives below each n (Qualifier-F.Generator pattern arrow part) =
     same_gives (sym (ap qualifier_items (rolls-Generator pattern arrow part) ∙ qualifier_generator pattern arrow part))
-    (then_gives (each.pat n PatPlace.Whole pattern) (then_gives (one_gives n IsBackArrow arrow) (inside_gives (each.exp n true ExpPlace.Whole part))))
+    (then_gives (each.pat n PatPlace.Whole pattern) (then_gives (one_gives n IsBackArrow arrow) (inside_gives (each.exp n Colons.Allowed ExpPlace.Whole part))))
 qualifier_layer_gives below each n (Qualifier-F.Locals word block) =
     same_gives (sym (ap qualifier_items (rolls-Locals word block) ∙ qualifier_locals word block))
     (then_gives (one_gives n (IsWord (codes "let")) word) (each.declarations n DeclPlace.Local block))
 qualifier_layer_gives below each n (Qualifier-F.Test part) =
-    same_gives (sym (ap qualifier_items (rolls-Test part) ∙ qualifier_test part)) (inside_gives (each.exp n true ExpPlace.Whole part))
+    same_gives (sym (ap qualifier_items (rolls-Test part) ∙ qualifier_test part)) (inside_gives (each.exp n Colons.Allowed ExpPlace.Whole part))
 
 qualifier_gives : (below : Derivations) → AllGive below → (n : ℕ) (qualifier : Qualifier) → Gives (qualifier_items qualifier) (qualifier_over below n qualifier)
 qualifier_gives below each n qualifier = same_gives (ap qualifier_items (roll-out-Qualifier qualifier)) (qualifier_layer_gives below each n (out-Qualifier qualifier))
@@ -73,38 +73,38 @@ atom_gives below each n (Exp-F.Literal literal) =
     (one_gives n IsLiteral literal)
 atom_gives below each n (Exp-F.Group left part right) =
     same_gives (sym (ap exp_items (rolls-Group left part right) ∙ exp_group left part right))
-    (then_gives (one_gives n IsLeftParen left) (then_gives (inside_gives (each.exp n true ExpPlace.Whole part)) (one_gives n IsRightParen right)))
+    (then_gives (one_gives n IsLeftParen left) (then_gives (inside_gives (each.exp n Colons.Allowed ExpPlace.Whole part)) (one_gives n IsRightParen right)))
 atom_gives below each n (Exp-F.Tuple left parts right) =
     same_gives (sym (ap exp_items (rolls-Tuple left parts right) ∙ exp_tuple left parts right))
     (given_gives (AreParts (length parts))
-    (then_gives (one_gives n IsLeftParen left) (then_gives (separated_gives n IsComma exp_items _ (λ x. inside_gives (each.exp n true ExpPlace.Whole x)) parts) (one_gives n IsRightParen right))))
+    (then_gives (one_gives n IsLeftParen left) (then_gives (separated_gives n IsComma exp_items _ (λ x. inside_gives (each.exp n Colons.Allowed ExpPlace.Whole x)) parts) (one_gives n IsRightParen right))))
 atom_gives below each n (Exp-F.List left parts right) =
     same_gives (sym (ap exp_items (rolls-List left parts right) ∙ exp_list left parts right))
     (given_gives (parts ≢ [])
-    (then_gives (one_gives n IsLeftSquare left) (then_gives (separated_gives n IsComma exp_items _ (λ x. inside_gives (each.exp n true ExpPlace.Whole x)) parts) (one_gives n IsRightSquare right))))
+    (then_gives (one_gives n IsLeftSquare left) (then_gives (separated_gives n IsComma exp_items _ (λ x. inside_gives (each.exp n Colons.Allowed ExpPlace.Whole x)) parts) (one_gives n IsRightSquare right))))
 atom_gives below each n (Exp-F.From left first dots right) =
     same_gives (sym (ap exp_items (rolls-From left first dots right) ∙ exp_from left first dots right))
-    (then_gives (one_gives n IsLeftSquare left) (then_gives (inside_gives (each.exp n true ExpPlace.Whole first)) (then_gives (one_gives n IsDots dots) (one_gives n IsRightSquare right))))
+    (then_gives (one_gives n IsLeftSquare left) (then_gives (inside_gives (each.exp n Colons.Allowed ExpPlace.Whole first)) (then_gives (one_gives n IsDots dots) (one_gives n IsRightSquare right))))
 atom_gives below each n (Exp-F.FromThen left first comma second dots right) =
     same_gives (sym (ap exp_items (rolls-FromThen left first comma second dots right) ∙ exp_from_then left first comma second dots right))
-    (then_gives (one_gives n IsLeftSquare left) (then_gives (inside_gives (each.exp n true ExpPlace.Whole first)) (then_gives (one_gives n IsComma comma) (then_gives (inside_gives (each.exp n true ExpPlace.Whole second)) (then_gives (one_gives n IsDots dots) (one_gives n IsRightSquare right))))))
+    (then_gives (one_gives n IsLeftSquare left) (then_gives (inside_gives (each.exp n Colons.Allowed ExpPlace.Whole first)) (then_gives (one_gives n IsComma comma) (then_gives (inside_gives (each.exp n Colons.Allowed ExpPlace.Whole second)) (then_gives (one_gives n IsDots dots) (one_gives n IsRightSquare right))))))
 atom_gives below each n (Exp-F.FromTo left first dots last right) =
     same_gives (sym (ap exp_items (rolls-FromTo left first dots last right) ∙ exp_from_to left first dots last right))
-    (then_gives (one_gives n IsLeftSquare left) (then_gives (inside_gives (each.exp n true ExpPlace.Whole first)) (then_gives (one_gives n IsDots dots) (then_gives (inside_gives (each.exp n true ExpPlace.Whole last)) (one_gives n IsRightSquare right)))))
+    (then_gives (one_gives n IsLeftSquare left) (then_gives (inside_gives (each.exp n Colons.Allowed ExpPlace.Whole first)) (then_gives (one_gives n IsDots dots) (then_gives (inside_gives (each.exp n Colons.Allowed ExpPlace.Whole last)) (one_gives n IsRightSquare right)))))
 atom_gives below each n (Exp-F.FromThenTo left first comma second dots last right) =
     same_gives (sym (ap exp_items (rolls-FromThenTo left first comma second dots last right) ∙ exp_from_then_to left first comma second dots last right))
-    (then_gives (one_gives n IsLeftSquare left) (then_gives (inside_gives (each.exp n true ExpPlace.Whole first)) (then_gives (one_gives n IsComma comma) (then_gives (inside_gives (each.exp n true ExpPlace.Whole second)) (then_gives (one_gives n IsDots dots) (then_gives (inside_gives (each.exp n true ExpPlace.Whole last)) (one_gives n IsRightSquare right)))))))
+    (then_gives (one_gives n IsLeftSquare left) (then_gives (inside_gives (each.exp n Colons.Allowed ExpPlace.Whole first)) (then_gives (one_gives n IsComma comma) (then_gives (inside_gives (each.exp n Colons.Allowed ExpPlace.Whole second)) (then_gives (one_gives n IsDots dots) (then_gives (inside_gives (each.exp n Colons.Allowed ExpPlace.Whole last)) (one_gives n IsRightSquare right)))))))
 atom_gives below each n (Exp-F.Comprehension left part bar qualifiers right) =
     same_gives (sym (ap exp_items (rolls-Comprehension left part bar qualifiers right) ∙ exp_comprehension left part bar qualifiers right))
     (given_gives (qualifiers ≢ [])
-    (then_gives (one_gives n IsLeftSquare left) (then_gives (inside_gives (each.exp n true ExpPlace.Whole part)) (then_gives (one_gives n IsBar bar) (then_gives (separated_gives n IsComma qualifier_items _ (qualifier_gives below each n) qualifiers) (one_gives n IsRightSquare right))))))
+    (then_gives (one_gives n IsLeftSquare left) (then_gives (inside_gives (each.exp n Colons.Allowed ExpPlace.Whole part)) (then_gives (one_gives n IsBar bar) (then_gives (separated_gives n IsComma qualifier_items _ (qualifier_gives below each n) qualifiers) (one_gives n IsRightSquare right))))))
 atom_gives below each n (Exp-F.LeftSection left part operator right) =
     same_gives (sym (ap exp_items (rolls-LeftSection left part operator right) ∙ exp_left_section left part operator right))
-    (then_gives (one_gives n IsLeftParen left) (then_gives (inside_gives (each.exp n true ExpPlace.Sequence part)) (then_gives (spelled_gives n IsOperator operator_items operator) (one_gives n IsRightParen right))))
+    (then_gives (one_gives n IsLeftParen left) (then_gives (inside_gives (each.exp n Colons.Allowed ExpPlace.Sequence part)) (then_gives (spelled_gives n IsOperator operator_items operator) (one_gives n IsRightParen right))))
 atom_gives below each n (Exp-F.RightSection left operator part right) =
     same_gives (sym (ap exp_items (rolls-RightSection left operator part right) ∙ exp_right_section left operator part right))
     (given_gives (IsNoMinus operator)
-    (then_gives (one_gives n IsLeftParen left) (then_gives (spelled_gives n IsOperator operator_items operator) (then_gives (inside_gives (each.exp n true ExpPlace.Sequence part)) (one_gives n IsRightParen right)))))
+    (then_gives (one_gives n IsLeftParen left) (then_gives (spelled_gives n IsOperator operator_items operator) (then_gives (inside_gives (each.exp n Colons.Allowed ExpPlace.Sequence part)) (one_gives n IsRightParen right)))))
 atom_gives below each n (Exp-F.Apply atoms) = never_gives
 atom_gives below each n (Exp-F.Infix operands) = never_gives
 atom_gives below each n (Exp-F.Annotated part colons ty) = never_gives
@@ -115,7 +115,7 @@ atom_gives below each n (Exp-F.Case word part of_word block) = never_gives
 atom_gives below each n (Exp-F.Fields part left fields right) = never_gives
 
 -- one level, where trees on the level below take their own items
-exp_gives : (below : Derivations) → AllGive below → (n : ℕ) (free : Bool) (place : ExpPlace) (layer : Exp-F Decl Exp Qualifier Alt) (ending : Ending)
+exp_gives : (below : Derivations) → AllGive below → (n : ℕ) (free : Colons) (place : ExpPlace) (layer : Exp-F Decl Exp Qualifier Alt) (ending : Ending)
     → Gives (exp_items (roll-Exp layer)) (exp_reading below n free place layer ending)
 exp_gives below each n free place (Exp-F.Apply atoms) ending =
     same_gives (sym (ap exp_items (rolls-Apply atoms) ∙ exp_apply atoms))
@@ -143,8 +143,8 @@ exp_gives below each n free place (Exp-F.Infix operands) ending =
     (operands_give below each n free (last_operand place) operands ending))
 exp_gives below each n free place (Exp-F.Annotated part colons ty) ending =
     same_gives (sym (ap exp_items (rolls-Annotated part colons ty) ∙ exp_annotated part colons ty))
-    (given_gives ((ending ≡ annotated) × ((takes_annotation place ≡ true) × (free ≡ true)))
-    (then_gives (inside_gives (each.exp n true ExpPlace.Annotated part)) (then_gives (one_gives n IsDoubleColon colons) (each.ty n TyPlace.Whole ty))))
+    (given_gives ((ending ≡ annotated) × ((takes_annotation place ≡ true) × (free ≡ Colons.Allowed)))
+    (then_gives (inside_gives (each.exp n Colons.Allowed ExpPlace.Annotated part)) (then_gives (one_gives n IsDoubleColon colons) (each.ty n TyPlace.Whole ty))))
 exp_gives below each n free place (Exp-F.Fields part left fields right) ending = never_gives
 exp_gives below each n free place (Exp-F.Variable used) ending = given_gives (ending ≡ applied) (atom_gives below each n (Exp-F.Variable used))
 exp_gives below each n free place (Exp-F.Constructor named) ending = given_gives (ending ≡ applied) (atom_gives below each n (Exp-F.Constructor named))
@@ -160,5 +160,5 @@ exp_gives below each n free place (Exp-F.Comprehension left part bar qualifiers 
 exp_gives below each n free place (Exp-F.LeftSection left part operator right) ending = given_gives (ending ≡ applied) (atom_gives below each n (Exp-F.LeftSection left part operator right))
 exp_gives below each n free place (Exp-F.RightSection left operator part right) ending = given_gives (ending ≡ applied) (atom_gives below each n (Exp-F.RightSection left operator part right))
 
-pub exp_over_gives : (below : Derivations) → AllGive below → (n : ℕ) (free : Bool) (place : ExpPlace) (exp : Exp) (ending : Ending) → Gives (exp_items exp) (exp_over below n free place exp ending)
+pub exp_over_gives : (below : Derivations) → AllGive below → (n : ℕ) (free : Colons) (place : ExpPlace) (exp : Exp) (ending : Ending) → Gives (exp_items exp) (exp_over below n free place exp ending)
 exp_over_gives below each n free place exp ending = same_gives (ap exp_items (roll-out-Exp exp)) (exp_gives below each n free place (out-Exp exp) ending)

@@ -11,7 +11,7 @@ use Rattle.hr_tree.specs.declared.expressions.Decl.{Decl}
 use Rattle.hr_tree.specs.declared.expressions.Alt.{Alt}
 use Rattle.hr_grammar.specs.Words.{IsSemicolon}
 use Rattle.hr_grammar.specs.Nodes.{Nodes, DeclPlace}
-use Rattle.hr_grammar.specs.Blocks.{IsPiece, AreApart, AreBraced}
+use Rattle.hr_grammar.specs.Blocks.{IsPiece, PartsAreSeparated, AreBraced}
 use Rattle.hr_grammar.specs.Yields.{AreDeclarationsOver, AreAlternativesOver}
 use Rattle.hr_grammar_cases.specs.Derivations.{Derivations}
 use Rattle.hr_grammar_cases.specs.Blocks.{Parts, pieces_reading, braced_reading, layout_reading}
@@ -44,7 +44,7 @@ braced_staged parts Is each place begins (Piece.Part part ∷ pieces) ts us r =
 false_is_true : {C : Type 0} → false ≡ true → C
 false_is_true {C} e = let h : ⊥ = cc in elim h [ ]
 
-braced_apart : {T : Type 0} (parts : Parts T) (place : DeclPlace) (begins : Bool) (pieces : List (Piece T)) (ts us : List Placed) → braced_reading parts place begins pieces ts us → AreApart pieces
+braced_apart : {T : Type 0} (parts : Parts T) (place : DeclPlace) (begins : Bool) (pieces : List (Piece T)) (ts us : List Placed) → braced_reading parts place begins pieces ts us → PartsAreSeparated pieces
 braced_apart parts place begins [] ts us r = tt
 braced_apart parts place begins (Piece.Semicolon item ∷ []) ts us r = tt
 braced_apart parts place begins (Piece.Part part ∷ []) ts us r = tt

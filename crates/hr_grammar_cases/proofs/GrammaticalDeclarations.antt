@@ -1,5 +1,5 @@
 -- Declarations and alternatives that are read are those of the grammar.
-use Rattle.std.proofs.Common.{◌≢◌, ℕ, true, false, List, [], ◌∷◌, Option, Some, None}
+use Rattle.std.proofs.Common.{◌≢◌, ℕ, List, [], ◌∷◌, Option, Some, None}
 use Rattle.std.specs.List.{AllByRecursion}
 use Rattle.hr_base.specs.declared.lexeme.Class.{Class}
 use Rattle.hr_base.specs.declared.lexeme.Ending.{Ending}
@@ -18,7 +18,7 @@ use Rattle.hr_tree.specs.declared.expressions.Alt.{Alt, out-Alt}
 use Rattle.hr_tree.specs.Names.{variable_items, operator_items}
 use Rattle.hr_grammar.specs.Words.{IsOf, IsEquals, IsArrow, IsBar, IsComma, IsLeftParen}
 use Rattle.hr_grammar.specs.Spelled.{IsVariable, IsOwnOperator}
-use Rattle.hr_grammar.specs.Nodes.{Nodes, TyPlace, PatPlace, ExpPlace, DeclPlace}
+use Rattle.hr_grammar.specs.Nodes.{Nodes, Colons, TyPlace, PatPlace, ExpPlace, DeclPlace}
 use Rattle.hr_grammar.specs.Declarations.{IsTypeHead, IsConstructionOver, IsNewConstructionOver, AreArgumentsOver, IsLeftHeadOver, IsClosedOver, IsLeftSideOver, IsGuardedOver, IsBodyOver, IsWhereOver, IsDigit, DeclProduction, IsAltOver}
 use Rattle.hr_grammar_cases.specs.Derivations.{Derivations}
 use Rattle.hr_grammar_cases.specs.Declarations.{type_head_reading, construction_reading, new_construction_reading, arguments_reading, left_head_reading, closed_reading, left_side_reading, guarded_reading, guards_reading, body_reading, right_side_reading, decl_reading, alt_over}
@@ -65,7 +65,7 @@ left_side_is read allowed each n left ts us r = (
 guarded_is : (read : Derivations) (allowed : Nodes) → AllAre read allowed → (n : ℕ) (IsMark : Item → Type 0) (guarded : Guarded Exp) (ending : Ending) (ts us : List Placed)
     → guarded_reading read n IsMark guarded ending ts us → IsGuardedOver allowed IsMark guarded
 guarded_is read allowed each n IsMark guarded ending ts us r =
-    (r.1.0, (each.exp n false ExpPlace.Sequence guarded.guard r.2.1.0 r.0 r.2.0 r.2.1.1, (r.2.2.1.0, each.exp n true ExpPlace.Whole guarded.body ending r.2.2.0 us r.2.2.2)))
+    (r.1.0, (each.exp n Colons.Barred ExpPlace.Sequence guarded.guard r.2.1.0 r.0 r.2.0 r.2.1.1, (r.2.2.1.0, each.exp n Colons.Allowed ExpPlace.Whole guarded.body ending r.2.2.0 us r.2.2.2)))
 
 guards_are : (read : Derivations) (allowed : Nodes) → AllAre read allowed → (n : ℕ) (IsMark : Item → Type 0) (list : List (Guarded Exp)) (ending : Ending) (ts us : List Placed)
     → guards_reading read n IsMark list ending ts us → AllByRecursion (IsGuardedOver allowed IsMark) list
@@ -81,7 +81,7 @@ some_guards read n IsMark (guarded ∷ rest) ending ts us r = λ e. let h : ⊥ 
 
 body_is : (read : Derivations) (allowed : Nodes) → AllAre read allowed → (n : ℕ) (IsMark : Item → Type 0) (body : Body Exp) (ending : Ending) (ts us : List Placed)
     → body_reading read n IsMark body ending ts us → IsBodyOver allowed IsMark body
-body_is read allowed each n IsMark (Body.Plain mark body) ending ts us r = (r.2.1.0, each.exp n true ExpPlace.Whole body r.0 r.2.0 us r.2.2)
+body_is read allowed each n IsMark (Body.Plain mark body) ending ts us r = (r.2.1.0, each.exp n Colons.Allowed ExpPlace.Whole body r.0 r.2.0 us r.2.2)
 body_is read allowed each n IsMark (Body.Guarded list) ending ts us r = (some_guards read n IsMark list r.0 ts us r.2, guards_are read allowed each n IsMark list r.0 ts us r.2)
 
 right_side_is : (read : Derivations) (allowed : Nodes) → AllAre read allowed → (n : ℕ) (IsMark : Item → Type 0) (body : Body Exp) (locals : Option (Where Decl)) (ending : Ending) (ts us : List Placed)

@@ -1,5 +1,5 @@
 -- Expressions that are read are those of the grammar.
-use Rattle.std.proofs.Common.{ℕ, Bool, true, List, [], ◌∷◌}
+use Rattle.std.proofs.Common.{ℕ, List, [], ◌∷◌}
 use Rattle.hr_base.specs.declared.lexeme.Ending.{Ending}
 use Rattle.hr_rules.specs.declared.block.Placed.{Placed}
 use Rattle.hr_tree.specs.declared.lists.Operand.{Operand}
@@ -10,7 +10,7 @@ use Rattle.hr_tree.specs.declared.expressions.Qualifier.{Qualifier, out-Qualifie
 use Rattle.hr_tree.specs.declared.expressions.Decl.TheOpen.{Exp-F, Qualifier-F}
 use Rattle.hr_grammar.specs.Words.{IsMinus, IsComma}
 use Rattle.hr_grammar.specs.Spelled.{IsOperator}
-use Rattle.hr_grammar.specs.Nodes.{Nodes, TyPlace, PatPlace, ExpPlace, DeclPlace}
+use Rattle.hr_grammar.specs.Nodes.{Nodes, Colons, TyPlace, PatPlace, ExpPlace, DeclPlace}
 use Rattle.hr_grammar.specs.Expressions.{last_operand, AreExpOperands, QualifierProduction, IsQualifierOver, ExpProduction}
 use Rattle.hr_grammar_cases.specs.Readings.{inside}
 use Rattle.hr_grammar_cases.specs.Derivations.{Derivations}
@@ -18,10 +18,10 @@ use Rattle.hr_grammar_cases.specs.Expressions.{whole, exp_operands, qualifier_re
 use Rattle.hr_grammar_cases.specs.Laws.{AllAre}
 use Rattle.hr_grammar_cases.proofs.Grammatical.{Are, maybe_is, operator_is, in_turn_are, separated_are}
 
-whole_is : (read : Derivations) (allowed : Nodes) → AllAre read allowed → (n : ℕ) (free : Bool) → Are (whole read n free) (allowed.exp free ExpPlace.Whole)
+whole_is : (read : Derivations) (allowed : Nodes) → AllAre read allowed → (n : ℕ) (free : Colons) → Are (whole read n free) (allowed.exp free ExpPlace.Whole)
 whole_is read allowed each n free part ts us r = each.exp n free ExpPlace.Whole part r.0 ts us r.1
 
-exp_operands_are : (read : Derivations) (allowed : Nodes) → AllAre read allowed → (n : ℕ) (free : Bool) (last : ExpPlace) (operands : List (Operand Exp)) (ending : Ending) (ts us : List Placed)
+exp_operands_are : (read : Derivations) (allowed : Nodes) → AllAre read allowed → (n : ℕ) (free : Colons) (last : ExpPlace) (operands : List (Operand Exp)) (ending : Ending) (ts us : List Placed)
     → exp_operands read n free last operands ending ts us → AreExpOperands allowed free last operands
 exp_operands_are read allowed each n free last [] ending ts us r = r
 exp_operands_are read allowed each n free last (operand ∷ []) ending ts us r =
@@ -36,14 +36,14 @@ exp_operands_are read allowed each n free last (operand ∷ (next ∷ rest)) end
 qualifier_layer_is : (read : Derivations) (allowed : Nodes) → AllAre read allowed → (n : ℕ) (layer : Qualifier-F Decl Exp Qualifier Alt) (ts us : List Placed)
     → qualifier_reading read n layer ts us → QualifierProduction allowed layer
 qualifier_layer_is read allowed each n (Qualifier-F.Generator pattern arrow part) ts us r =
-    (each.pat n PatPlace.Whole pattern ts r.0 r.1, r.2.1.0, whole_is read allowed each n true part r.2.0 us r.2.2)
+    (each.pat n PatPlace.Whole pattern ts r.0 r.1, r.2.1.0, whole_is read allowed each n Colons.Allowed part r.2.0 us r.2.2)
 qualifier_layer_is read allowed each n (Qualifier-F.Locals word block) ts us r = (r.1.0, each.declarations n DeclPlace.Local block r.0 us r.2)
-qualifier_layer_is read allowed each n (Qualifier-F.Test part) ts us r = whole_is read allowed each n true part ts us r
+qualifier_layer_is read allowed each n (Qualifier-F.Test part) ts us r = whole_is read allowed each n Colons.Allowed part ts us r
 
 qualifier_is : (read : Derivations) (allowed : Nodes) → AllAre read allowed → (n : ℕ) → Are (qualifier_over read n) (IsQualifierOver allowed)
 qualifier_is read allowed each n qualifier ts us r = qualifier_layer_is read allowed each n (out-Qualifier qualifier) ts us r
 
-atom_is : (read : Derivations) (allowed : Nodes) → AllAre read allowed → (n : ℕ) (free : Bool) (place : ExpPlace) (layer : Exp-F Decl Exp Qualifier Alt) (ts us : List Placed)
+atom_is : (read : Derivations) (allowed : Nodes) → AllAre read allowed → (n : ℕ) (free : Colons) (place : ExpPlace) (layer : Exp-F Decl Exp Qualifier Alt) (ts us : List Placed)
     → atom_reading read n layer ts us → ExpProduction allowed free place layer
 atom_is read allowed each n free place (Exp-F.Variable used) ts us r =
     r.0
@@ -52,31 +52,31 @@ atom_is read allowed each n free place (Exp-F.Constructor named) ts us r =
 atom_is read allowed each n free place (Exp-F.Literal literal) ts us r =
     r.0
 atom_is read allowed each n free place (Exp-F.Group left part right) ts us r =
-    (r.1.0, whole_is read allowed each n true part r.0 r.2.0 r.2.1, r.2.2.0)
+    (r.1.0, whole_is read allowed each n Colons.Allowed part r.0 r.2.0 r.2.1, r.2.2.0)
 atom_is read allowed each n free place (Exp-F.Tuple left parts right) ts us r =
-    (r.1.1.0, separated_are n IsComma (whole read n true) (allowed.exp true ExpPlace.Whole) (whole_is read allowed each n true) parts r.1.0 r.1.2.0 r.1.2.1, r.0, r.1.2.2.0)
+    (r.1.1.0, separated_are n IsComma (whole read n Colons.Allowed) (allowed.exp Colons.Allowed ExpPlace.Whole) (whole_is read allowed each n Colons.Allowed) parts r.1.0 r.1.2.0 r.1.2.1, r.0, r.1.2.2.0)
 atom_is read allowed each n free place (Exp-F.List left parts right) ts us r =
-    (r.1.1.0, separated_are n IsComma (whole read n true) (allowed.exp true ExpPlace.Whole) (whole_is read allowed each n true) parts r.1.0 r.1.2.0 r.1.2.1, r.0, r.1.2.2.0)
+    (r.1.1.0, separated_are n IsComma (whole read n Colons.Allowed) (allowed.exp Colons.Allowed ExpPlace.Whole) (whole_is read allowed each n Colons.Allowed) parts r.1.0 r.1.2.0 r.1.2.1, r.0, r.1.2.2.0)
 atom_is read allowed each n free place (Exp-F.From left first dots right) ts us r =
-    (r.1.0, whole_is read allowed each n true first r.0 r.2.0 r.2.1, r.2.2.1.0, r.2.2.2.0)
+    (r.1.0, whole_is read allowed each n Colons.Allowed first r.0 r.2.0 r.2.1, r.2.2.1.0, r.2.2.2.0)
 atom_is read allowed each n free place (Exp-F.FromThen left first comma second dots right) ts us r =
-    (r.1.0, whole_is read allowed each n true first r.0 r.2.0 r.2.1, r.2.2.1.0, whole_is read allowed each n true second r.2.2.0 r.2.2.2.0 r.2.2.2.1, r.2.2.2.2.1.0, r.2.2.2.2.2.0)
+    (r.1.0, whole_is read allowed each n Colons.Allowed first r.0 r.2.0 r.2.1, r.2.2.1.0, whole_is read allowed each n Colons.Allowed second r.2.2.0 r.2.2.2.0 r.2.2.2.1, r.2.2.2.2.1.0, r.2.2.2.2.2.0)
 atom_is read allowed each n free place (Exp-F.FromTo left first dots last right) ts us r =
-    (r.1.0, whole_is read allowed each n true first r.0 r.2.0 r.2.1, r.2.2.1.0, whole_is read allowed each n true last r.2.2.0 r.2.2.2.0 r.2.2.2.1, r.2.2.2.2.0)
+    (r.1.0, whole_is read allowed each n Colons.Allowed first r.0 r.2.0 r.2.1, r.2.2.1.0, whole_is read allowed each n Colons.Allowed last r.2.2.0 r.2.2.2.0 r.2.2.2.1, r.2.2.2.2.0)
 atom_is read allowed each n free place (Exp-F.FromThenTo left first comma second dots last right) ts us r =
-    (r.1.0, whole_is read allowed each n true first r.0 r.2.0 r.2.1, r.2.2.1.0, whole_is read allowed each n true second r.2.2.0 r.2.2.2.0 r.2.2.2.1, r.2.2.2.2.1.0, whole_is read allowed each n true last r.2.2.2.2.0 r.2.2.2.2.2.0 r.2.2.2.2.2.1, r.2.2.2.2.2.2.0)
+    (r.1.0, whole_is read allowed each n Colons.Allowed first r.0 r.2.0 r.2.1, r.2.2.1.0, whole_is read allowed each n Colons.Allowed second r.2.2.0 r.2.2.2.0 r.2.2.2.1, r.2.2.2.2.1.0, whole_is read allowed each n Colons.Allowed last r.2.2.2.2.0 r.2.2.2.2.2.0 r.2.2.2.2.2.1, r.2.2.2.2.2.2.0)
 atom_is read allowed each n free place (Exp-F.Comprehension left part bar qualifiers right) ts us r = (
   r.1.1.0,
-  whole_is read allowed each n true part r.1.0 r.1.2.0 r.1.2.1,
+  whole_is read allowed each n Colons.Allowed part r.1.0 r.1.2.0 r.1.2.1,
   r.1.2.2.1.0,
   separated_are n IsComma (qualifier_over read n) (IsQualifierOver allowed) (qualifier_is read allowed each n) qualifiers r.1.2.2.0 r.1.2.2.2.0 r.1.2.2.2.1,
   r.0,
   r.1.2.2.2.2.0,
 )
 atom_is read allowed each n free place (Exp-F.LeftSection left part operator right) ts us r =
-    (r.1.0, each.exp n true ExpPlace.Sequence part r.2.1.0 r.0 r.2.0 r.2.1.1, r.2.2.1.0, r.2.2.2.0)
+    (r.1.0, each.exp n Colons.Allowed ExpPlace.Sequence part r.2.1.0 r.0 r.2.0 r.2.1.1, r.2.2.1.0, r.2.2.2.0)
 atom_is read allowed each n free place (Exp-F.RightSection left operator part right) ts us r =
-    (r.1.1.0, r.1.2.1.0, r.0, each.exp n true ExpPlace.Sequence part r.1.2.2.1.0 r.1.2.0 r.1.2.2.0 r.1.2.2.1.1, r.1.2.2.2.0)
+    (r.1.1.0, r.1.2.1.0, r.0, each.exp n Colons.Allowed ExpPlace.Sequence part r.1.2.2.1.0 r.1.2.0 r.1.2.2.0 r.1.2.2.1.1, r.1.2.2.2.0)
 atom_is read allowed each n free place (Exp-F.Apply atoms) ts us r = elim r [ ]
 atom_is read allowed each n free place (Exp-F.Infix operands) ts us r = elim r [ ]
 atom_is read allowed each n free place (Exp-F.Annotated part colons ty) ts us r = elim r [ ]
@@ -86,7 +86,7 @@ atom_is read allowed each n free place (Exp-F.If word test then_word first else_
 atom_is read allowed each n free place (Exp-F.Case word part of_word block) ts us r = elim r [ ]
 atom_is read allowed each n free place (Exp-F.Fields part left fields right) ts us r = elim r [ ]
 
-pub exp_is : (read : Derivations) (allowed : Nodes) → AllAre read allowed → (n : ℕ) (free : Bool) (place : ExpPlace) (layer : Exp-F Decl Exp Qualifier Alt) (ending : Ending) (ts us : List Placed)
+pub exp_is : (read : Derivations) (allowed : Nodes) → AllAre read allowed → (n : ℕ) (free : Colons) (place : ExpPlace) (layer : Exp-F Decl Exp Qualifier Alt) (ending : Ending) (ts us : List Placed)
     → exp_reading read n free place layer ending ts us → ExpProduction allowed free place layer
 exp_is read allowed each n free place (Exp-F.Apply atoms) ending ts us r =
     (r.0.1.0, r.0.1.1, in_turn_are (λ atom. inside (read.exp n free ExpPlace.Atom atom)) (allowed.exp free ExpPlace.Atom) (λ x vs ws h. each.exp n free ExpPlace.Atom x h.0 vs ws h.1) atoms ts us r.1)
@@ -101,7 +101,7 @@ exp_is read allowed each n free place (Exp-F.If word test then_word first else_w
 exp_is read allowed each n free place (Exp-F.Infix operands) ending ts us r =
     (r.0.0, r.0.1, exp_operands_are read allowed each n free (last_operand place) operands ending ts us r.1)
 exp_is read allowed each n free place (Exp-F.Annotated part colons ty) ending ts us r =
-    (r.0.1.0, r.0.1.1, each.exp n true ExpPlace.Annotated part r.1.1.0 ts r.1.0 r.1.1.1, r.1.2.1.0, each.ty n TyPlace.Whole ty r.1.2.0 us r.1.2.2)
+    (r.0.1.0, r.0.1.1, each.exp n Colons.Allowed ExpPlace.Annotated part r.1.1.0 ts r.1.0 r.1.1.1, r.1.2.1.0, each.ty n TyPlace.Whole ty r.1.2.0 us r.1.2.2)
 exp_is read allowed each n free place (Exp-F.Fields part left fields right) ending ts us r = r
 exp_is read allowed each n free place (Exp-F.Variable used) ending ts us r = atom_is read allowed each n free place (Exp-F.Variable used) ts us r.1
 exp_is read allowed each n free place (Exp-F.Constructor named) ending ts us r = atom_is read allowed each n free place (Exp-F.Constructor named) ts us r.1

@@ -43,12 +43,11 @@ is_module : (levels : ℕ) (tree : Module) (items : List Item) → Derives level
 is_module levels tree items d =
     (header_is tree.header (placed_of items) d.0 d.1, (levels_are_lem levels).declarations 0 DeclPlace.Top tree.body d.0 [] d.2)
 
-items_same : (levels : ℕ) (tree : Module) (items : List Item) → Derives levels tree items → ◌≡◌ {A = Items} (record { list = module_items tree; tail = tree.tail }) (record { list = items; tail = tree.tail })
+pub items_same : (levels : ℕ) (tree : Module) (items : List Item) → Derives levels tree items → ◌≡◌ {A = Items} (record { list = module_items tree; tail = tree.tail }) (record { list = items; tail = tree.tail })
 items_same levels tree items d = ap (λ (l : List Item). record { list = l; tail = tree.tail }) (sym (modules_give_lem levels tree items d))
 
 pub modules_are_lem : ModulesAre
 modules_are_lem = record {
   grammar = is_module;
   yields = λ tree items d. record { grammar = is_module nesting_limit tree items d; items_are = items_same nesting_limit tree items d };
-  deep = λ levels tree items d. record { grammar = (levels, is_module levels tree items d); items_are = items_same levels tree items d };
 }

@@ -28,4 +28,7 @@ pub mod Stops
 pub mod Stretches
 pub mod Taken
 pub mod Types
+pub mod Widening
+pub mod WideningExpressions
+pub mod WideningModules
 pub mod Worked

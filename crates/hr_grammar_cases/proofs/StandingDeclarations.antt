@@ -23,9 +23,9 @@ use Rattle.hr_tree.specs.Names.{variable_items, operator_items}
 use Rattle.hr_tree.specs.Yields.{construction_items, left_side_items, pat_items}
 use Rattle.hr_grammar.specs.Words.{IsOf, IsWord, IsEquals, IsArrow, IsBar, IsComma, IsDoubleColon}
 use Rattle.hr_grammar.specs.Spelled.{IsVariable, IsOwnOperator}
-use Rattle.hr_grammar.specs.Nodes.{TyPlace, PatPlace, ExpPlace, DeclPlace}
+use Rattle.hr_grammar.specs.Nodes.{Colons, TyPlace, PatPlace, ExpPlace, DeclPlace}
 use Rattle.hr_grammar.specs.Declarations.{fixity_words, IsDigit, takes_import, takes_top, takes_local}
-use Rattle.hr_grammar.specs.Spans.{Laid, bare, one as one_laid, ending_as, part_ending, guarded_laid, block_laid, decl_laid, exp_laid, qualifier_laid, alt_laid}
+use Rattle.hr_grammar.specs.Spans.{Laid, blockless, one as one_laid, ending_as, part_ending, guarded_laid, block_laid, decl_laid, exp_laid, qualifier_laid, alt_laid, top_ending}
 use Rattle.hr_grammar_cases.specs.Derivations.{Derivations}
 use Rattle.hr_grammar_cases.specs.Declarations.{construction_reading, guarded_reading, guards_reading, body_reading, right_side_reading, decl_reading, decl_over, alt_over}
 use Rattle.hr_grammar_cases.proofs.Taken.{AllTake, separated_takes, spelled_takes, maybe_one_takes}
@@ -51,45 +51,45 @@ abbrev where_by : Laid → Where Decl → List (Piece Laid) → Laid
 where_by body locals pieces =
     ending_as Ending.WhereBlock (beside body (beside (one_laid locals.word) (block_laid BlockKind.Declarations (record { layout = locals.block.layout; pieces = pieces }))))
 
-pub decl_equation : (left : LeftSide) (body : Body Exp) (locals : Option (Where Decl)) → laid_decl (roll-Decl (Decl-F.Equation left body locals)) ≡ beside (bare (left_side_items left)) (right_side_by body locals)
+pub decl_equation : (left : LeftSide) (body : Body Exp) (locals : Option (Where Decl)) → laid_decl (roll-Decl (Decl-F.Equation left body locals)) ≡ beside (blockless (left_side_items left)) (right_side_by body locals)
 decl_equation left (Body.Plain mark part) None = fold-roll-Decl Laid Laid Laid Laid decl_laid exp_laid qualifier_laid alt_laid (Decl-F.Equation left (Body.Plain mark part) None)
 decl_equation left (Body.Plain mark part) (Some locals) =
     fold-roll-Decl Laid Laid Laid Laid decl_laid exp_laid qualifier_laid alt_laid (Decl-F.Equation left (Body.Plain mark part) (Some locals))
-    ∙ ap (λ ps. beside (bare (left_side_items left)) (where_by (body_by (Body.Plain mark part)) locals ps)) (pieces_turned laid_decl _ (λ item. refl) (λ decl. refl) locals.block.pieces)
+    ∙ ap (λ ps. beside (blockless (left_side_items left)) (where_by (body_by (Body.Plain mark part)) locals ps)) (pieces_turned laid_decl _ (λ item. refl) (λ decl. refl) locals.block.pieces)
 decl_equation left (Body.Guarded list) None = fold-roll-Decl Laid Laid Laid Laid decl_laid exp_laid qualifier_laid alt_laid (Decl-F.Equation left (Body.Guarded list) None)
 decl_equation left (Body.Guarded list) (Some locals) =
     fold-roll-Decl Laid Laid Laid Laid decl_laid exp_laid qualifier_laid alt_laid (Decl-F.Equation left (Body.Guarded list) (Some locals))
-    ∙ ap (λ ps. beside (bare (left_side_items left)) (where_by (body_by (Body.Guarded list)) locals ps)) (pieces_turned laid_decl _ (λ item. refl) (λ decl. refl) locals.block.pieces)
+    ∙ ap (λ ps. beside (blockless (left_side_items left)) (where_by (body_by (Body.Guarded list)) locals ps)) (pieces_turned laid_decl _ (λ item. refl) (λ decl. refl) locals.block.pieces)
 
-pub decl_binding : (pattern : Pat) (body : Body Exp) (locals : Option (Where Decl)) → laid_decl (roll-Decl (Decl-F.Binding pattern body locals)) ≡ beside (bare (pat_items pattern)) (right_side_by body locals)
+pub decl_binding : (pattern : Pat) (body : Body Exp) (locals : Option (Where Decl)) → laid_decl (roll-Decl (Decl-F.Binding pattern body locals)) ≡ beside (blockless (pat_items pattern)) (right_side_by body locals)
 decl_binding pattern (Body.Plain mark part) None = fold-roll-Decl Laid Laid Laid Laid decl_laid exp_laid qualifier_laid alt_laid (Decl-F.Binding pattern (Body.Plain mark part) None)
 decl_binding pattern (Body.Plain mark part) (Some locals) =
     fold-roll-Decl Laid Laid Laid Laid decl_laid exp_laid qualifier_laid alt_laid (Decl-F.Binding pattern (Body.Plain mark part) (Some locals))
-    ∙ ap (λ ps. beside (bare (pat_items pattern)) (where_by (body_by (Body.Plain mark part)) locals ps)) (pieces_turned laid_decl _ (λ item. refl) (λ decl. refl) locals.block.pieces)
+    ∙ ap (λ ps. beside (blockless (pat_items pattern)) (where_by (body_by (Body.Plain mark part)) locals ps)) (pieces_turned laid_decl _ (λ item. refl) (λ decl. refl) locals.block.pieces)
 decl_binding pattern (Body.Guarded list) None = fold-roll-Decl Laid Laid Laid Laid decl_laid exp_laid qualifier_laid alt_laid (Decl-F.Binding pattern (Body.Guarded list) None)
 decl_binding pattern (Body.Guarded list) (Some locals) =
     fold-roll-Decl Laid Laid Laid Laid decl_laid exp_laid qualifier_laid alt_laid (Decl-F.Binding pattern (Body.Guarded list) (Some locals))
-    ∙ ap (λ ps. beside (bare (pat_items pattern)) (where_by (body_by (Body.Guarded list)) locals ps)) (pieces_turned laid_decl _ (λ item. refl) (λ decl. refl) locals.block.pieces)
+    ∙ ap (λ ps. beside (blockless (pat_items pattern)) (where_by (body_by (Body.Guarded list)) locals ps)) (pieces_turned laid_decl _ (λ item. refl) (λ decl. refl) locals.block.pieces)
 
 alt_rolled : (pattern : Pat) (body : Body Exp) (locals : Option (Where Decl))
-    → laid_alt (roll-Alt (record { pattern = pattern; body = body; locals = locals })) ≡ beside (bare (pat_items pattern)) (right_side_by body locals)
+    → laid_alt (roll-Alt (record { pattern = pattern; body = body; locals = locals })) ≡ beside (blockless (pat_items pattern)) (right_side_by body locals)
 alt_rolled pattern (Body.Plain mark part) None = fold-roll-Alt Laid Laid Laid Laid decl_laid exp_laid qualifier_laid alt_laid (record { pattern = pattern; body = Body.Plain mark part; locals = None })
 alt_rolled pattern (Body.Plain mark part) (Some locals) =
     fold-roll-Alt Laid Laid Laid Laid decl_laid exp_laid qualifier_laid alt_laid (record { pattern = pattern; body = Body.Plain mark part; locals = Some locals })
-    ∙ ap (λ ps. beside (bare (pat_items pattern)) (where_by (body_by (Body.Plain mark part)) locals ps)) (pieces_turned laid_decl _ (λ item. refl) (λ decl. refl) locals.block.pieces)
+    ∙ ap (λ ps. beside (blockless (pat_items pattern)) (where_by (body_by (Body.Plain mark part)) locals ps)) (pieces_turned laid_decl _ (λ item. refl) (λ decl. refl) locals.block.pieces)
 alt_rolled pattern (Body.Guarded list) None = fold-roll-Alt Laid Laid Laid Laid decl_laid exp_laid qualifier_laid alt_laid (record { pattern = pattern; body = Body.Guarded list; locals = None })
 alt_rolled pattern (Body.Guarded list) (Some locals) =
     fold-roll-Alt Laid Laid Laid Laid decl_laid exp_laid qualifier_laid alt_laid (record { pattern = pattern; body = Body.Guarded list; locals = Some locals })
-    ∙ ap (λ ps. beside (bare (pat_items pattern)) (where_by (body_by (Body.Guarded list)) locals ps)) (pieces_turned laid_decl _ (λ item. refl) (λ decl. refl) locals.block.pieces)
+    ∙ ap (λ ps. beside (blockless (pat_items pattern)) (where_by (body_by (Body.Guarded list)) locals ps)) (pieces_turned laid_decl _ (λ item. refl) (λ decl. refl) locals.block.pieces)
 
-pub alt_whole : (alt : Alt) → laid_alt alt ≡ beside (bare (pat_items (out-Alt alt).pattern)) (right_side_by (out-Alt alt).body (out-Alt alt).locals)
+pub alt_whole : (alt : Alt) → laid_alt alt ≡ beside (blockless (pat_items (out-Alt alt).pattern)) (right_side_by (out-Alt alt).body (out-Alt alt).locals)
 alt_whole alt = ap laid_alt (sym (roll-out-Alt alt)) ∙ alt_rolled (out-Alt alt).pattern (out-Alt alt).body (out-Alt alt).locals
 
 guarded_stands : (text : Text) (below : Derivations) → AllStand text below → (n : ℕ) (IsMark : Item → Type 0) (guarded : Guarded Exp) (ending : Ending)
     → Stands text n false (guarded_laid (guarded_by laid_exp guarded)) (guarded_reading below n IsMark guarded ending)
 guarded_stands text below each n IsMark guarded ending =
     then_stands (one_stands IsBar guarded.bar)
-    (then_stands (inside_stands (each.exp n false ExpPlace.Sequence guarded.guard)) (then_stands (one_stands IsMark guarded.mark) (each.exp n true ExpPlace.Whole guarded.body ending)))
+    (then_stands (inside_stands (each.exp n Colons.Barred ExpPlace.Sequence guarded.guard)) (then_stands (one_stands IsMark guarded.mark) (each.exp n Colons.Allowed ExpPlace.Whole guarded.body ending)))
 
 guards_stand : (text : Text) (below : Derivations) → AllStand text below → (n : ℕ) (IsMark : Item → Type 0) (list : List (Guarded Exp)) (ending : Ending)
     → Stands text n false (guards_laid list) (guards_reading below n IsMark list ending)
@@ -100,7 +100,7 @@ guards_stand text below each n IsMark (guarded ∷ (next ∷ rest)) ending =
 
 body_stands : (text : Text) (below : Derivations) → AllStand text below → (n : ℕ) (IsMark : Item → Type 0) (body : Body Exp) (ending : Ending) → Stands text n false (body_by body) (body_reading below n IsMark body ending)
 body_stands text below each n IsMark (Body.Plain mark body) ending =
-    ending_stands (part_ending false (laid_exp body).ending) (ends_as_stands (part_ending false) (λ inner. then_stands (one_stands IsMark mark) (each.exp n true ExpPlace.Whole body inner)) ending)
+    ending_stands (part_ending false (laid_exp body).ending) (ends_as_stands (part_ending false) (λ inner. then_stands (one_stands IsMark mark) (each.exp n Colons.Allowed ExpPlace.Whole body inner)) ending)
 body_stands text below each n IsMark (Body.Guarded list) ending =
     ending_stands (part_ending true (guards_laid list).ending) (ends_as_stands (part_ending true) (guards_stand text below each n IsMark list) ending)
 
@@ -116,22 +116,22 @@ decl_stands : (text : Text) (below : Derivations) → AllTake below → AllStand
     → Stands text n false (laid_decl (roll-Decl layer)) (decl_reading below n place layer ending)
 decl_stands text below take each n place (Decl-F.Import import) ending =
     same_stands (sym (fold-roll-Decl Laid Laid Laid Laid decl_laid exp_laid qualifier_laid alt_laid (Decl-F.Import import)))
-    (given_stands ((ending ≡ Ending.WhereBlock) × (takes_import place ≡ true)) (ending_stands Ending.Nothing (taken_stands (import_takes n import))))
+    (given_stands ((ending ≡ top_ending) × (takes_import place ≡ true)) (ending_stands top_ending (taken_stands (import_takes n import))))
 decl_stands text below take each n place (Decl-F.Synonym word head equals ty) ending =
     same_stands (sym (fold-roll-Decl Laid Laid Laid Laid decl_laid exp_laid qualifier_laid alt_laid (Decl-F.Synonym word head equals ty)))
-    (given_stands ((ending ≡ Ending.WhereBlock) × (takes_top place ≡ true))
-    (ending_stands Ending.Nothing
+    (given_stands ((ending ≡ top_ending) × (takes_top place ≡ true))
+    (ending_stands top_ending
     (then_stands (one_stands (IsWord (codes "type")) word) (then_stands (taken_stands (type_head_takes n head)) (then_stands (one_stands IsEquals equals) (taken_stands (take.ty n TyPlace.Whole ty)))))))
 decl_stands text below take each n place (Decl-F.Data word head equals constructions) ending =
     same_stands (sym (fold-roll-Decl Laid Laid Laid Laid decl_laid exp_laid qualifier_laid alt_laid (Decl-F.Data word head equals constructions)))
-    (given_stands ((ending ≡ Ending.WhereBlock) × ((takes_top place ≡ true) × (constructions ≢ [])))
-    (ending_stands Ending.Nothing
+    (given_stands ((ending ≡ top_ending) × ((takes_top place ≡ true) × (constructions ≢ [])))
+    (ending_stands top_ending
     (then_stands (one_stands (IsWord (codes "data")) word) (then_stands (taken_stands (type_head_takes n head)) (then_stands (one_stands IsEquals equals)
     (taken_stands (separated_takes n IsBar construction_items (construction_reading below n) (construction_takes below take n) constructions)))))))
 decl_stands text below take each n place (Decl-F.Newtype word head equals construction) ending =
     same_stands (sym (fold-roll-Decl Laid Laid Laid Laid decl_laid exp_laid qualifier_laid alt_laid (Decl-F.Newtype word head equals construction)))
-    (given_stands ((ending ≡ Ending.WhereBlock) × (takes_top place ≡ true))
-    (ending_stands Ending.Nothing
+    (given_stands ((ending ≡ top_ending) × (takes_top place ≡ true))
+    (ending_stands top_ending
     (then_stands (one_stands (IsWord (codes "newtype")) word) (then_stands (taken_stands (type_head_takes n head)) (then_stands (one_stands IsEquals equals) (taken_stands (new_construction_takes below take n construction)))))))
 decl_stands text below take each n place (Decl-F.Signature names colons ty) ending =
     same_stands (sym (fold-roll-Decl Laid Laid Laid Laid decl_laid exp_laid qualifier_laid alt_laid (Decl-F.Signature names colons ty)))

@@ -1,5 +1,5 @@
 -- An expression that is read stands.
-use Rattle.std.proofs.Common.{◌≡◌, ◌≢◌, ℕ, Bool, true, false, List, [], ◌∷◌, length, Option, refl, sym, ap, ◌∙◌, subst}
+use Rattle.std.proofs.Common.{◌≡◌, ◌≢◌, ℕ, true, false, List, [], ◌∷◌, length, Option, refl, sym, ap, ◌∙◌, subst}
 use lib.Chars.{codes}
 use Rattle.hr_base.specs.declared.lexeme.Ending.{Ending}
 use Rattle.hr_base.specs.declared.lexeme.Item.{Item}
@@ -18,7 +18,7 @@ use Rattle.hr_tree.specs.Names.{maybe_operator, variable_items, constructor_item
 use Rattle.hr_tree.specs.Yields.{pat_items}
 use Rattle.hr_grammar.specs.Words.{IsWord, IsReserved, IsLiteral, IsMinus, IsLeftParen, IsRightParen, IsLeftSquare, IsRightSquare, IsComma, IsBar, IsDots, IsArrow, IsBackArrow, IsDoubleColon}
 use Rattle.hr_grammar.specs.Spelled.{IsNamedVariable, IsConstructor, IsOperator, IsNoMinus, AreParts}
-use Rattle.hr_grammar.specs.Nodes.{TyPlace, PatPlace, ExpPlace}
+use Rattle.hr_grammar.specs.Nodes.{Colons, TyPlace, PatPlace, ExpPlace}
 use Rattle.hr_grammar.specs.Patterns.{HasTwo}
 use Rattle.hr_grammar.specs.Expressions.{takes_operand, takes_open, takes_infix, takes_annotation, last_operand, IsSequence}
 use Rattle.hr_grammar.specs.Spans.{Laid, one as one_laid, ending_as, block_laid, decl_laid, exp_laid, qualifier_laid, alt_laid}
@@ -32,7 +32,7 @@ use Rattle.hr_grammar_cases.proofs.StandingLexemes.{nothing_stands, one_stands, 
 use Rattle.hr_grammar_cases.proofs.StandingBlocks.{block_by}
 use Rattle.hr_grammar_cases.proofs.StandingTrees.{laid_exp, laid_decl, laid_qualifier, laid_alt, AllStand, operands_laid, pieces_turned, through, separated_stands}
 
-operands_stand : (text : Text) (below : Derivations) → AllStand text below → (n : ℕ) (free : Bool) (last : ExpPlace) (operands : List (Operand Exp)) (ending : Ending)
+operands_stand : (text : Text) (below : Derivations) → AllStand text below → (n : ℕ) (free : Colons) (last : ExpPlace) (operands : List (Operand Exp)) (ending : Ending)
     → Stands text n false (operands_laid operands) (exp_operands below n free last operands ending)
 operands_stand text below each n free last [] ending = never_stands
 operands_stand text below each n free last (operand ∷ []) ending =
@@ -47,12 +47,12 @@ qualifier_layer_stands : (text : Text) (below : Derivations) → AllTake below �
     → Stands text n false (laid_qualifier (roll-Qualifier layer)) (qualifier_reading below n layer)
 qualifier_layer_stands text below take each n (Qualifier-F.Generator pattern arrow part) =
     same_stands (sym (fold-roll-Qualifier Laid Laid Laid Laid decl_laid exp_laid qualifier_laid alt_laid (Qualifier-F.Generator pattern arrow part)))
-    (then_stands (taken_stands (take.pat n PatPlace.Whole pattern)) (then_stands (one_stands IsBackArrow arrow) (inside_stands (each.exp n true ExpPlace.Whole part))))
+    (then_stands (taken_stands (take.pat n PatPlace.Whole pattern)) (then_stands (one_stands IsBackArrow arrow) (inside_stands (each.exp n Colons.Allowed ExpPlace.Whole part))))
 qualifier_layer_stands text below take each n (Qualifier-F.Locals word block) =
     same_stands (sym (fold-roll-Qualifier Laid Laid Laid Laid decl_laid exp_laid qualifier_laid alt_laid (Qualifier-F.Locals word block)
     ∙ ap (λ ps. beside (one_laid word) (block_laid BlockKind.Declarations (record { layout = block.layout; pieces = ps }))) (pieces_turned laid_decl _ (λ item. refl) (λ part. refl) block.pieces)))
     (opens_stands (IsWord (codes "let")) word (each.declarations n block))
-qualifier_layer_stands text below take each n (Qualifier-F.Test part) = same_stands (sym (fold-roll-Qualifier Laid Laid Laid Laid decl_laid exp_laid qualifier_laid alt_laid (Qualifier-F.Test part))) (inside_stands (each.exp n true ExpPlace.Whole part))
+qualifier_layer_stands text below take each n (Qualifier-F.Test part) = same_stands (sym (fold-roll-Qualifier Laid Laid Laid Laid decl_laid exp_laid qualifier_laid alt_laid (Qualifier-F.Test part))) (inside_stands (each.exp n Colons.Allowed ExpPlace.Whole part))
 
 qualifier_stands : (text : Text) (below : Derivations) → AllTake below → AllStand text below → (n : ℕ) (qualifier : Qualifier) → Stands text n false (laid_qualifier qualifier) (qualifier_over below n qualifier)
 qualifier_stands text below take each n qualifier = same_stands (ap laid_qualifier (roll-out-Qualifier qualifier)) (qualifier_layer_stands text below take each n (out-Qualifier qualifier))
@@ -65,25 +65,25 @@ atom_stands text below take each n (Exp-F.Constructor named) =
 atom_stands text below take each n (Exp-F.Literal literal) =
     same_stands (sym (fold-roll-Exp Laid Laid Laid Laid decl_laid exp_laid qualifier_laid alt_laid (Exp-F.Literal literal))) (one_stands IsLiteral literal)
 atom_stands text below take each n (Exp-F.Group left part right) =
-    same_stands (sym (fold-roll-Exp Laid Laid Laid Laid decl_laid exp_laid qualifier_laid alt_laid (Exp-F.Group left part right))) (then_stands (one_stands IsLeftParen left) (then_stands (inside_stands (each.exp n true ExpPlace.Whole part)) (one_stands IsRightParen right)))
+    same_stands (sym (fold-roll-Exp Laid Laid Laid Laid decl_laid exp_laid qualifier_laid alt_laid (Exp-F.Group left part right))) (then_stands (one_stands IsLeftParen left) (then_stands (inside_stands (each.exp n Colons.Allowed ExpPlace.Whole part)) (one_stands IsRightParen right)))
 atom_stands text below take each n (Exp-F.Tuple left parts right) =
-    same_stands (sym (fold-roll-Exp Laid Laid Laid Laid decl_laid exp_laid qualifier_laid alt_laid (Exp-F.Tuple left parts right))) (given_stands (AreParts (length parts)) (then_stands (one_stands IsLeftParen left) (then_stands (separated_stands IsComma laid_exp _ (λ x. inside_stands (each.exp n true ExpPlace.Whole x)) parts) (one_stands IsRightParen right))))
+    same_stands (sym (fold-roll-Exp Laid Laid Laid Laid decl_laid exp_laid qualifier_laid alt_laid (Exp-F.Tuple left parts right))) (given_stands (AreParts (length parts)) (then_stands (one_stands IsLeftParen left) (then_stands (separated_stands IsComma laid_exp _ (λ x. inside_stands (each.exp n Colons.Allowed ExpPlace.Whole x)) parts) (one_stands IsRightParen right))))
 atom_stands text below take each n (Exp-F.List left parts right) =
-    same_stands (sym (fold-roll-Exp Laid Laid Laid Laid decl_laid exp_laid qualifier_laid alt_laid (Exp-F.List left parts right))) (given_stands (parts ≢ []) (then_stands (one_stands IsLeftSquare left) (then_stands (separated_stands IsComma laid_exp _ (λ x. inside_stands (each.exp n true ExpPlace.Whole x)) parts) (one_stands IsRightSquare right))))
+    same_stands (sym (fold-roll-Exp Laid Laid Laid Laid decl_laid exp_laid qualifier_laid alt_laid (Exp-F.List left parts right))) (given_stands (parts ≢ []) (then_stands (one_stands IsLeftSquare left) (then_stands (separated_stands IsComma laid_exp _ (λ x. inside_stands (each.exp n Colons.Allowed ExpPlace.Whole x)) parts) (one_stands IsRightSquare right))))
 atom_stands text below take each n (Exp-F.From left first dots right) =
-    same_stands (sym (fold-roll-Exp Laid Laid Laid Laid decl_laid exp_laid qualifier_laid alt_laid (Exp-F.From left first dots right))) (then_stands (one_stands IsLeftSquare left) (then_stands (inside_stands (each.exp n true ExpPlace.Whole first)) (then_stands (one_stands IsDots dots) (one_stands IsRightSquare right))))
+    same_stands (sym (fold-roll-Exp Laid Laid Laid Laid decl_laid exp_laid qualifier_laid alt_laid (Exp-F.From left first dots right))) (then_stands (one_stands IsLeftSquare left) (then_stands (inside_stands (each.exp n Colons.Allowed ExpPlace.Whole first)) (then_stands (one_stands IsDots dots) (one_stands IsRightSquare right))))
 atom_stands text below take each n (Exp-F.FromThen left first comma second dots right) =
-    same_stands (sym (fold-roll-Exp Laid Laid Laid Laid decl_laid exp_laid qualifier_laid alt_laid (Exp-F.FromThen left first comma second dots right))) (then_stands (one_stands IsLeftSquare left) (then_stands (inside_stands (each.exp n true ExpPlace.Whole first)) (then_stands (one_stands IsComma comma) (then_stands (inside_stands (each.exp n true ExpPlace.Whole second)) (then_stands (one_stands IsDots dots) (one_stands IsRightSquare right))))))
+    same_stands (sym (fold-roll-Exp Laid Laid Laid Laid decl_laid exp_laid qualifier_laid alt_laid (Exp-F.FromThen left first comma second dots right))) (then_stands (one_stands IsLeftSquare left) (then_stands (inside_stands (each.exp n Colons.Allowed ExpPlace.Whole first)) (then_stands (one_stands IsComma comma) (then_stands (inside_stands (each.exp n Colons.Allowed ExpPlace.Whole second)) (then_stands (one_stands IsDots dots) (one_stands IsRightSquare right))))))
 atom_stands text below take each n (Exp-F.FromTo left first dots last right) =
-    same_stands (sym (fold-roll-Exp Laid Laid Laid Laid decl_laid exp_laid qualifier_laid alt_laid (Exp-F.FromTo left first dots last right))) (then_stands (one_stands IsLeftSquare left) (then_stands (inside_stands (each.exp n true ExpPlace.Whole first)) (then_stands (one_stands IsDots dots) (then_stands (inside_stands (each.exp n true ExpPlace.Whole last)) (one_stands IsRightSquare right)))))
+    same_stands (sym (fold-roll-Exp Laid Laid Laid Laid decl_laid exp_laid qualifier_laid alt_laid (Exp-F.FromTo left first dots last right))) (then_stands (one_stands IsLeftSquare left) (then_stands (inside_stands (each.exp n Colons.Allowed ExpPlace.Whole first)) (then_stands (one_stands IsDots dots) (then_stands (inside_stands (each.exp n Colons.Allowed ExpPlace.Whole last)) (one_stands IsRightSquare right)))))
 atom_stands text below take each n (Exp-F.FromThenTo left first comma second dots last right) =
-    same_stands (sym (fold-roll-Exp Laid Laid Laid Laid decl_laid exp_laid qualifier_laid alt_laid (Exp-F.FromThenTo left first comma second dots last right))) (then_stands (one_stands IsLeftSquare left) (then_stands (inside_stands (each.exp n true ExpPlace.Whole first)) (then_stands (one_stands IsComma comma) (then_stands (inside_stands (each.exp n true ExpPlace.Whole second)) (then_stands (one_stands IsDots dots) (then_stands (inside_stands (each.exp n true ExpPlace.Whole last)) (one_stands IsRightSquare right)))))))
+    same_stands (sym (fold-roll-Exp Laid Laid Laid Laid decl_laid exp_laid qualifier_laid alt_laid (Exp-F.FromThenTo left first comma second dots last right))) (then_stands (one_stands IsLeftSquare left) (then_stands (inside_stands (each.exp n Colons.Allowed ExpPlace.Whole first)) (then_stands (one_stands IsComma comma) (then_stands (inside_stands (each.exp n Colons.Allowed ExpPlace.Whole second)) (then_stands (one_stands IsDots dots) (then_stands (inside_stands (each.exp n Colons.Allowed ExpPlace.Whole last)) (one_stands IsRightSquare right)))))))
 atom_stands text below take each n (Exp-F.Comprehension left part bar qualifiers right) =
-    same_stands (sym (fold-roll-Exp Laid Laid Laid Laid decl_laid exp_laid qualifier_laid alt_laid (Exp-F.Comprehension left part bar qualifiers right))) (given_stands (qualifiers ≢ []) (then_stands (one_stands IsLeftSquare left) (then_stands (inside_stands (each.exp n true ExpPlace.Whole part)) (then_stands (one_stands IsBar bar) (then_stands (separated_stands IsComma laid_qualifier _ (qualifier_stands text below take each n) qualifiers) (one_stands IsRightSquare right))))))
+    same_stands (sym (fold-roll-Exp Laid Laid Laid Laid decl_laid exp_laid qualifier_laid alt_laid (Exp-F.Comprehension left part bar qualifiers right))) (given_stands (qualifiers ≢ []) (then_stands (one_stands IsLeftSquare left) (then_stands (inside_stands (each.exp n Colons.Allowed ExpPlace.Whole part)) (then_stands (one_stands IsBar bar) (then_stands (separated_stands IsComma laid_qualifier _ (qualifier_stands text below take each n) qualifiers) (one_stands IsRightSquare right))))))
 atom_stands text below take each n (Exp-F.LeftSection left part operator right) =
-    same_stands (sym (fold-roll-Exp Laid Laid Laid Laid decl_laid exp_laid qualifier_laid alt_laid (Exp-F.LeftSection left part operator right))) (then_stands (one_stands IsLeftParen left) (then_stands (inside_stands (each.exp n true ExpPlace.Sequence part)) (then_stands (taken_stands (spelled_takes n IsOperator operator_items operator)) (one_stands IsRightParen right))))
+    same_stands (sym (fold-roll-Exp Laid Laid Laid Laid decl_laid exp_laid qualifier_laid alt_laid (Exp-F.LeftSection left part operator right))) (then_stands (one_stands IsLeftParen left) (then_stands (inside_stands (each.exp n Colons.Allowed ExpPlace.Sequence part)) (then_stands (taken_stands (spelled_takes n IsOperator operator_items operator)) (one_stands IsRightParen right))))
 atom_stands text below take each n (Exp-F.RightSection left operator part right) =
-    same_stands (sym (fold-roll-Exp Laid Laid Laid Laid decl_laid exp_laid qualifier_laid alt_laid (Exp-F.RightSection left operator part right))) (given_stands (IsNoMinus operator) (then_stands (one_stands IsLeftParen left) (then_stands (taken_stands (spelled_takes n IsOperator operator_items operator)) (then_stands (inside_stands (each.exp n true ExpPlace.Sequence part)) (one_stands IsRightParen right)))))
+    same_stands (sym (fold-roll-Exp Laid Laid Laid Laid decl_laid exp_laid qualifier_laid alt_laid (Exp-F.RightSection left operator part right))) (given_stands (IsNoMinus operator) (then_stands (one_stands IsLeftParen left) (then_stands (taken_stands (spelled_takes n IsOperator operator_items operator)) (then_stands (inside_stands (each.exp n Colons.Allowed ExpPlace.Sequence part)) (one_stands IsRightParen right)))))
 atom_stands text below take each n (Exp-F.Apply atoms) = never_stands
 atom_stands text below take each n (Exp-F.Infix operands) = never_stands
 atom_stands text below take each n (Exp-F.Annotated part colons ty) = never_stands
@@ -101,7 +101,7 @@ exp_let word block in_word body =
     (pieces_turned laid_decl _ (λ item. refl) (λ part. refl) block.pieces)
 
 -- one level, where trees on the level below stand
-exp_stands : (text : Text) (below : Derivations) → AllTake below → AllStand text below → (n : ℕ) (free : Bool) (place : ExpPlace) (layer : Exp-F Decl Exp Qualifier Alt) (ending : Ending)
+exp_stands : (text : Text) (below : Derivations) → AllTake below → AllStand text below → (n : ℕ) (free : Colons) (place : ExpPlace) (layer : Exp-F Decl Exp Qualifier Alt) (ending : Ending)
     → Stands text n false (laid_exp (roll-Exp layer)) (exp_reading below n free place layer ending)
 exp_stands text below take each n free place (Exp-F.Apply atoms) ending =
     same_stands (sym (fold-roll-Exp Laid Laid Laid Laid decl_laid exp_laid qualifier_laid alt_laid (Exp-F.Apply atoms)))
@@ -131,8 +131,8 @@ exp_stands text below take each n free place (Exp-F.Infix operands) ending =
     (operands_stand text below each n free (last_operand place) operands ending))
 exp_stands text below take each n free place (Exp-F.Annotated part colons ty) ending =
     same_stands (sym (fold-roll-Exp Laid Laid Laid Laid decl_laid exp_laid qualifier_laid alt_laid (Exp-F.Annotated part colons ty)))
-    (given_stands ((ending ≡ annotated) × ((takes_annotation place ≡ true) × (free ≡ true)))
-    (ending_stands annotated (then_stands (inside_stands (each.exp n true ExpPlace.Annotated part)) (then_stands (one_stands IsDoubleColon colons) (taken_stands (take.ty n TyPlace.Whole ty))))))
+    (given_stands ((ending ≡ annotated) × ((takes_annotation place ≡ true) × (free ≡ Colons.Allowed)))
+    (ending_stands annotated (then_stands (inside_stands (each.exp n Colons.Allowed ExpPlace.Annotated part)) (then_stands (one_stands IsDoubleColon colons) (taken_stands (take.ty n TyPlace.Whole ty))))))
 exp_stands text below take each n free place (Exp-F.Fields part left fields right) ending = never_stands
 exp_stands text below take each n free place (Exp-F.Variable used) ending = given_stands (ending ≡ applied) (atom_stands text below take each n (Exp-F.Variable used))
 exp_stands text below take each n free place (Exp-F.Constructor named) ending = given_stands (ending ≡ applied) (atom_stands text below take each n (Exp-F.Constructor named))
@@ -148,6 +148,6 @@ exp_stands text below take each n free place (Exp-F.Comprehension left part bar 
 exp_stands text below take each n free place (Exp-F.LeftSection left part operator right) ending = given_stands (ending ≡ applied) (atom_stands text below take each n (Exp-F.LeftSection left part operator right))
 exp_stands text below take each n free place (Exp-F.RightSection left operator part right) ending = given_stands (ending ≡ applied) (atom_stands text below take each n (Exp-F.RightSection left operator part right))
 
-pub exp_over_stands : (text : Text) (below : Derivations) → AllTake below → AllStand text below → (n : ℕ) (free : Bool) (place : ExpPlace) (exp : Exp) (ending : Ending)
+pub exp_over_stands : (text : Text) (below : Derivations) → AllTake below → AllStand text below → (n : ℕ) (free : Colons) (place : ExpPlace) (exp : Exp) (ending : Ending)
     → Stands text n false (laid_exp exp) (exp_over below n free place exp ending)
 exp_over_stands text below take each n free place exp ending = same_stands (ap laid_exp (roll-out-Exp exp)) (exp_stands text below take each n free place (out-Exp exp) ending)

@@ -3,7 +3,7 @@ use Rattle.std.proofs.Common.{◌≡◌, ◌⊎◌, ◌≤◌, ◌<◌, ℕ, ◌
 use Rattle.hr_base.specs.declared.lexeme.Item.{Item}
 use Rattle.hr_rules.specs.declared.block.Placed.{Placed}
 use Rattle.hr_rules.specs.Blocks.{goes_on}
-use Rattle.hr_grammar.specs.Spans.{Span, Laid, bare, one as one_laid, row}
+use Rattle.hr_grammar.specs.Spans.{Span, Laid, blockless, one as one_laid, row}
 use Rattle.hr_grammar_cases.specs.Readings.{Reading, nothing, takes, ◌▷◌, one, take_all, in_turn}
 use Rattle.hr_grammar_cases.proofs.Taken.{Takes}
 use Rattle.hr_grammar_cases.proofs.Stretches.{beside, bare_then, Text, seen, Next, next_in, seen_plain, behind_seen, before_or_behind}
@@ -12,7 +12,7 @@ use Rattle.hr_grammar_cases.proofs.Standing.{GoesAt, Right, wider, Within, still
 pub none_between : (start i : ℕ) → start ≤ i → i < start + 0 → ⊥
 none_between start i l h = omega arith
 
-pub nothing_stands : {text : Text} {n : ℕ} → Stands text n false (bare []) nothing
+pub nothing_stands : {text : Text} {n : ℕ} → Stands text n false (blockless []) nothing
 nothing_stands {text} {n} = record {
   within = λ ts us r start span has. elim has [ ];
   stands = λ ts us r begun start k e. record {
@@ -58,13 +58,13 @@ takes_stands {text} {n} item = record {
 pub one_stands : {text : Text} {n : ℕ} (Is : Item → Type 0) (item : Item) → Stands text n false (one_laid item) (one n Is item)
 one_stands Is item = given_stands (Is item) (takes_stands item)
 
-pub all_stand : {text : Text} {n : ℕ} (items : List Item) → Stands text n false (bare items) (take_all n items)
+pub all_stand : {text : Text} {n : ℕ} (items : List Item) → Stands text n false (blockless items) (take_all n items)
 all_stand [] = nothing_stands
 all_stand (item ∷ items) = same_stands (bare_then item items) (then_stands (takes_stands item) (all_stand items))
 
 -- a reading that knows nothing of layout
-pub taken_stands : {text : Text} {n : ℕ} {items : List Item} {reading : Reading} → Takes n items reading → Stands text n false (bare items) reading
-taken_stands {text} {n} {items} t = let s : Stands text n false (bare items) (take_all n items) = all_stand items in record {
+pub taken_stands : {text : Text} {n : ℕ} {items : List Item} {reading : Reading} → Takes n items reading → Stands text n false (blockless items) reading
+taken_stands {text} {n} {items} t = let s : Stands text n false (blockless items) (take_all n items) = all_stand items in record {
   within = λ ts us r. s.within ts us (t.takes_all ts us r);
   stands = λ ts us r. s.stands ts us (t.takes_all ts us r);
 }

@@ -19,7 +19,7 @@ use Rattle.hr_grammar_cases.specs.Laws.{EndingsAreSome, ModulesStand, ModulesYie
 use Rattle.hr_grammar_cases.proofs.Endings.{parts_end_lem}
 use Rattle.hr_grammar_cases.proofs.Imports.{header_takes}
 use Rattle.hr_grammar_cases.proofs.Modules.{levels_take, modules_give_lem}
-use Rattle.hr_grammar_cases.proofs.GrammaticalModules.{modules_are_lem}
+use Rattle.hr_grammar_cases.proofs.GrammaticalModules.{items_same, modules_are_lem}
 use Rattle.hr_grammar_cases.proofs.Stretches.{Has, all_are, is_empty_at, Text, lexemes}
 use Rattle.hr_grammar_cases.proofs.Standing.{never_stands, given_stands}
 use Rattle.hr_grammar_cases.proofs.StandingPieces.{PartsStand, Agree}
@@ -33,7 +33,7 @@ use Rattle.hr_grammar_cases.proofs.EndingsAgree.{AllEnd, levels_end}
 decl_parts_stand : (text : Text) (below : Derivations) → AllStand text below → AllEnd below → EndingsAreSome below → PartsStand text laid_decl (decl_parts below)
 decl_parts_stand text below each ends some = record {
   stands = λ n place next decl ending. given_stands (comes_behind place next ≡ true) (each.decl n next decl ending);
-  some = λ n place next decl ending ts us r. ends.decl_some n next decl ending ts us r.1;
+  some = λ n place next decl ending ts us r. (ends.decl n next decl ending ts us r.1).some;
   ends = λ n place next decl ending ts us r. some.decl n next decl ending ts us r.1;
 }
 
@@ -51,7 +51,7 @@ stays_local DeclPlace.Local e = refl
 
 decls_agree : (below : Derivations) → AllEnd below → Agree laid_decl (decl_parts below) DeclPlace.Local
 decls_agree below ends n next decl ending ts us r =
-    let same = stays_local next r.0 in (same, ends.decl n decl ending ts us (subst (λ p. below.decl n p decl ending ts us) same r.1))
+    (stays_local next r.0, (ends.decl n next decl ending ts us r.1).ends)
 
 alts_agree : (below : Derivations) → AllEnd below → Agree laid_alt (alt_parts below) DeclPlace.Local
 alts_agree below ends n next alt ending ts us r = (r.0, (ends.alt n alt ending ts us r.1).ends)
@@ -115,4 +115,10 @@ pub modules_stand_lem : ModulesStand
 modules_stand_lem levels tree items d = module_stands levels tree (subst (λ l. Derives levels tree l) (modules_give_lem levels tree items d) d)
 
 pub modules_yield_lem : ModulesYield
-modules_yield_lem tree items d = (modules_are_lem.yields tree items d, modules_stand_lem nesting_limit tree items d)
+modules_yield_lem = record {
+  yields = λ tree items d. (modules_are_lem.yields tree items d, modules_stand_lem nesting_limit tree items d);
+  deep = λ levels tree items d. record {
+    deep = record { grammar = (levels, modules_are_lem.grammar levels tree items d); offside = modules_stand_lem levels tree items d };
+    items_are = items_same levels tree items d;
+  };
+}

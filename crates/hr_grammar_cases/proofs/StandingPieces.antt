@@ -10,7 +10,7 @@ use Rattle.hr_rules.specs.Blocks.{mark, left_of, at_margin, starts_part, ends_bl
 use Rattle.hr_rules.proofs.Margins.{margins}
 use Rattle.hr_tree.specs.declared.lists.Piece.{Piece}
 use Rattle.hr_grammar.specs.Nodes.{DeclPlace}
-use Rattle.hr_grammar.specs.Spans.{Span, Stretch, Laid, bare, row, piece_laid, stretch_of, last_ending}
+use Rattle.hr_grammar.specs.Spans.{Span, Stretch, Laid, blockless, row, piece_laid, stretch_of, last_ending}
 use Rattle.hr_grammar.specs.Offside.{IsAtMargin, PartsBegin, begins, placed_among, StandsWell}
 use Rattle.hr_grammar_cases.specs.Blocks.{Parts, takes_semicolon, pieces_reading}
 use Rattle.hr_grammar_cases.proofs.Stops.{starts_at}
@@ -129,7 +129,7 @@ later text n start e f pieces i (inr b) = inr (b.0, or_right (start == i) (list_
 begins_here : (text : Text) (n start : ℕ) (rest : List ℕ) (i : ℕ) → i ≡ start → AtLeast text n start → AtLeast text n i × (list_any (λ s. s == i) (start ∷ rest) ≡ true)
 begins_here text n start rest i same l = (subst (λ j. AtLeast text n j) (sym same) l, first_begins i start rest same)
 
-nothing_standing : (text : Text) (n start : ℕ) (ts us : List Placed) → us ≡ ts → ts ≡ seen text false start → PiecesStanding text n start (bare []) [] us
+nothing_standing : (text : Text) (n start : ℕ) (ts us : List Placed) → us ≡ ts → ts ≡ seen text false start → PiecesStanding text n start (blockless []) [] us
 nothing_standing text n start ts us u e = record {
   after = u ∙ e ∙ ap (λ (i : ℕ). seen text false i) (sym (add-zero start));
   each = λ i l h. elim (none_between start i l h) [ ];

@@ -15,8 +15,8 @@ use Rattle.hr_tree.specs.declared.expressions.Alt.{Alt}
 use Rattle.hr_tree.specs.declared.expressions.Qualifier.{Qualifier}
 use Rattle.hr_tree.specs.declared.expressions.Decl.TheFolds.{fold-Decl, fold-Exp, fold-Qualifier, fold-Alt}
 use Rattle.hr_tree.specs.Names.{maybe_item}
-use Rattle.hr_grammar.specs.Nodes.{ExpPlace, DeclPlace}
-use Rattle.hr_grammar.specs.Spans.{Laid, bare, row, listed_laid, operand_laid, guarded_laid, block_laid, decl_laid, exp_laid, qualifier_laid, alt_laid}
+use Rattle.hr_grammar.specs.Nodes.{Colons, ExpPlace, DeclPlace}
+use Rattle.hr_grammar.specs.Spans.{Laid, blockless, row, listed_laid, operand_laid, guarded_laid, block_laid, decl_laid, exp_laid, qualifier_laid, alt_laid}
 use Rattle.hr_grammar_cases.specs.Readings.{Reading, one, take_all, separated}
 use Rattle.hr_grammar_cases.specs.Derivations.{Derivations}
 use Rattle.hr_grammar_cases.proofs.Taken.{one_there_takes}
@@ -40,7 +40,7 @@ laid_alt = fold-Alt Laid Laid Laid Laid decl_laid exp_laid qualifier_laid alt_la
 
 -- the trees that are read on some level stand
 pub record AllStand (text : Text) (below : Derivations) : Type 0 where
-  pub exp : (n : ℕ) (free : Bool) (place : ExpPlace) (exp : Exp) (ending : Ending) → Stands text n false (laid_exp exp) (below.exp n free place exp ending)
+  pub exp : (n : ℕ) (free : Colons) (place : ExpPlace) (exp : Exp) (ending : Ending) → Stands text n false (laid_exp exp) (below.exp n free place exp ending)
   pub decl : (n : ℕ) (place : DeclPlace) (decl : Decl) (ending : Ending) → Stands text n false (laid_decl decl) (below.decl n place decl ending)
   pub alt : (n : ℕ) (alt : Alt) (ending : Ending) → Stands text n false (laid_alt alt) (below.alt n alt ending)
   pub declarations : (m : ℕ) (block : Block Decl) → Stands text m true (block_laid BlockKind.Declarations (block_by laid_decl block)) (below.declarations m DeclPlace.Local block)
@@ -76,7 +76,7 @@ pub through : {text : Text} {n : ℕ} {opened : Bool} {laid : Laid} {first secon
 through f s = record { within = λ ts us r. s.within ts us (f ts us r); stands = λ ts us r. s.stands ts us (f ts us r) }
 
 -- a last part, behind which nothing stands
-pub alone_stands : {text : Text} {n : ℕ} {laid : Laid} {reading : Reading} → Stands text n false laid reading → Stands text n false (beside laid (bare [])) reading
+pub alone_stands : {text : Text} {n : ℕ} {laid : Laid} {reading : Reading} → Stands text n false laid reading → Stands text n false (beside laid (blockless [])) reading
 alone_stands s = through (λ ts us r. (us, r, refl)) (then_stands s nothing_stands)
 
 pub separated_stands : {T : Type 0} {text : Text} {n : ℕ} (Is : Item → Type 0) (of : T → Laid) (reading : T → Reading) → ((x : T) → Stands text n false (of x) (reading x))

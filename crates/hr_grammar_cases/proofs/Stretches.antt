@@ -6,7 +6,7 @@ use Rattle.hr_base.specs.declared.lexeme.Ending.{Ending}
 use Rattle.hr_base.specs.declared.lexeme.Item.{Item}
 use Rattle.hr_rules.specs.declared.block.Placed.{Placed}
 use Rattle.hr_rules.specs.Blocks.{mark}
-use Rattle.hr_grammar.specs.Spans.{Span, Laid, bare, one, ◌▷◌}
+use Rattle.hr_grammar.specs.Spans.{Span, Laid, blockless, one, ◌▷◌}
 use Rattle.hr_grammar.specs.Offside.{is_left_empty, placed_among}
 
 -- one stretch behind another
@@ -14,7 +14,7 @@ abbrev pub beside : Laid → Laid → Laid
 beside first second = first ▷ second
 
 -- an item before others is a stretch of them all
-pub bare_then : (item : Item) (items : List Item) → beside (one item) (bare items) ≡ bare (item ∷ items)
+pub bare_then : (item : Item) (items : List Item) → beside (one item) (blockless items) ≡ blockless (item ∷ items)
 bare_then item items = (λ j. record { extent = one-add (length items) j; ending = either_way (length items == 0) j; blocks = λ m start. [] })
   where
     either_way : (b : Bool) → (if b then Ending.Applied true false else Ending.Applied true false) ≡ Ending.Applied true false

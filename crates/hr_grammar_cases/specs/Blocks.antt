@@ -24,8 +24,8 @@ takes_semicolon n item [] us = ⊥
 takes_semicolon n item (next ∷ ts) us = (left_of n next ≡ false) × (next.item ≡ item) × (us ≡ ts)
 
 -- the block ends here, behind a piece that ends so
-abbrev pub stops : BlockKind → ℕ → Ending → Reading
-stops kind n ending ts us = (ends_block n kind ending ts ≡ true) × (us ≡ ts)
+abbrev pub ends_here : BlockKind → ℕ → Ending → Reading
+ends_here kind n ending ts us = (ends_block n kind ending ts ≡ true) × (us ≡ ts)
 
 -- a part may start here, behind a piece that ends so; its first lexeme is no boundary of the block any more
 abbrev pub starts : ℕ → Ending → Reading
@@ -37,7 +37,7 @@ part_then part rest ts us = (next : DeclPlace) × (end : Ending) × (part next e
 
 -- the pieces of a block of the kind at column n, behind a piece that ends so
 abbrev pub pieces_reading : {T : Type 0} → Parts T → BlockKind → ℕ → DeclPlace → Ending → List (Piece T) → Reading
-pieces_reading parts kind n place ending [] = stops kind n ending
+pieces_reading parts kind n place ending [] = ends_here kind n ending
 pieces_reading parts kind n place ending (Piece.Semicolon item ∷ pieces) =
     given (IsSemicolon item) (takes_semicolon n item) ▷ pieces_reading parts kind n place Ending.Nothing pieces
 pieces_reading parts kind n place ending (Piece.Part part ∷ pieces) =

@@ -22,9 +22,9 @@ use Rattle.hr_tree.specs.declared.expressions.Alt.{Alt, out-Alt}
 use Rattle.hr_tree.specs.Names.{variable_items, constructor_items, operator_items}
 use Rattle.hr_grammar.specs.Words.{IsOf, IsWord, IsEquals, IsArrow, IsBar, IsComma, IsDoubleColon, IsLeftParen, IsRightParen}
 use Rattle.hr_grammar.specs.Spelled.{IsVariable, IsOwnConstructor, IsOwnConstructorOperator, IsOwnVariableOperator, IsOwnOperator}
-use Rattle.hr_grammar.specs.Nodes.{TyPlace, PatPlace, ExpPlace, DeclPlace}
+use Rattle.hr_grammar.specs.Nodes.{Colons, TyPlace, PatPlace, ExpPlace, DeclPlace}
 use Rattle.hr_grammar.specs.Declarations.{fixity_words, IsDigit, takes_import, takes_top, takes_local}
-use Rattle.hr_grammar.specs.Spans.{part_ending}
+use Rattle.hr_grammar.specs.Spans.{part_ending, top_ending}
 use Rattle.hr_grammar_cases.specs.Readings.{Reading, never, ◌▷◌, given, one, spelled, maybe, in_turn, separated, inside, ends_as}
 use Rattle.hr_grammar_cases.specs.Derivations.{Derivations}
 use Rattle.hr_grammar_cases.specs.Imports.{import_reading}
@@ -65,7 +65,7 @@ left_side_reading below n left =
 -- a guard is a sequence without `::` outside of brackets and blocks
 abbrev pub guarded_reading : Derivations → ℕ → (Item → Type 0) → Guarded Exp → Ending → Reading
 guarded_reading below n IsMark guarded ending =
-    one n IsBar guarded.bar ▷ inside (below.exp n false ExpPlace.Sequence guarded.guard) ▷ one n IsMark guarded.mark ▷ below.exp n true ExpPlace.Whole guarded.body ending
+    one n IsBar guarded.bar ▷ inside (below.exp n Colons.Barred ExpPlace.Sequence guarded.guard) ▷ one n IsMark guarded.mark ▷ below.exp n Colons.Allowed ExpPlace.Whole guarded.body ending
 
 -- one or more, which end as the last one does
 abbrev pub guards_reading : Derivations → ℕ → (Item → Type 0) → List (Guarded Exp) → Ending → Reading
@@ -76,7 +76,7 @@ guards_reading below n IsMark (guarded ∷ (next ∷ rest)) ending =
 
 -- what stands behind `=` or `->`
 abbrev pub plain_reading : Derivations → ℕ → (Item → Type 0) → Item → Exp → Ending → Reading
-plain_reading below n IsMark mark body ending = one n IsMark mark ▷ below.exp n true ExpPlace.Whole body ending
+plain_reading below n IsMark mark body ending = one n IsMark mark ▷ below.exp n Colons.Allowed ExpPlace.Whole body ending
 
 abbrev pub body_reading : Derivations → ℕ → (Item → Type 0) → Body Exp → Ending → Reading
 body_reading below n IsMark (Body.Plain mark body) = ends_as (part_ending false) (plain_reading below n IsMark mark body)
@@ -89,18 +89,17 @@ right_side_reading below n IsMark body (Some locals) ending =
     given (ending ≡ Ending.WhereBlock)
     (inside (body_reading below n IsMark body) ▷ one n (IsWord (codes "where")) locals.word ▷ below.declarations n DeclPlace.Local locals.block)
 
--- the productions, by the declaration. The table of the layout rule has no row for those that stand in a module's
--- body alone, since nothing stands behind that body: they end as what nothing can follow
+-- the productions, by the declaration
 abbrev pub decl_reading : Derivations → ℕ → DeclPlace → Decl-F Decl Exp Qualifier Alt → Ending → Reading
-decl_reading below n place (Decl-F.Import import) ending = given ((ending ≡ Ending.WhereBlock) × (takes_import place ≡ true)) (import_reading n import)
+decl_reading below n place (Decl-F.Import import) ending = given ((ending ≡ top_ending) × (takes_import place ≡ true)) (import_reading n import)
 decl_reading below n place (Decl-F.Synonym word head equals ty) ending =
-    given ((ending ≡ Ending.WhereBlock) × (takes_top place ≡ true))
+    given ((ending ≡ top_ending) × (takes_top place ≡ true))
     (one n (IsWord (codes "type")) word ▷ type_head_reading n head ▷ one n IsEquals equals ▷ below.ty n TyPlace.Whole ty)
 decl_reading below n place (Decl-F.Data word head equals constructions) ending =
-    given ((ending ≡ Ending.WhereBlock) × ((takes_top place ≡ true) × (constructions ≢ [])))
+    given ((ending ≡ top_ending) × ((takes_top place ≡ true) × (constructions ≢ [])))
     (one n (IsWord (codes "data")) word ▷ type_head_reading n head ▷ one n IsEquals equals ▷ separated (one n IsBar) (construction_reading below n) constructions)
 decl_reading below n place (Decl-F.Newtype word head equals construction) ending =
-    given ((ending ≡ Ending.WhereBlock) × (takes_top place ≡ true))
+    given ((ending ≡ top_ending) × (takes_top place ≡ true))
     (one n (IsWord (codes "newtype")) word ▷ type_head_reading n head ▷ one n IsEquals equals ▷ new_construction_reading below n construction)
 decl_reading below n place (Decl-F.Signature names colons ty) ending =
     given ((ending ≡ Ending.Signature) × ((takes_local place ≡ true) × (names ≢ [])))

@@ -18,8 +18,9 @@ use Rattle.hr_tree.specs.declared.expressions.Decl.{Decl}
 use Rattle.hr_tree.specs.declared.expressions.Alt.{Alt}
 use Rattle.hr_tree.specs.Lists.{block_items}
 use Rattle.hr_tree.specs.Yields.{ty_items, pat_items, exp_items, decl_items, alt_items, import_items, header_items, module_items}
-use Rattle.hr_grammar.specs.Nodes.{Nodes, TyPlace, PatPlace, ExpPlace, DeclPlace}
-use Rattle.hr_grammar.specs.Yields.{nodes, nesting_limit, IsModule, Yields, DeepYields}
+use Rattle.hr_grammar.specs.Nodes.{Nodes, Colons, TyPlace, PatPlace, ExpPlace, DeclPlace}
+use Rattle.hr_grammar.specs.Yields.{nodes, nesting_limit, IsModule, Yields}
+use Rattle.hr_grammar.specs.Deep.{DeepYields}
 use Rattle.hr_grammar.specs.Offside.{Offside}
 use Rattle.hr_grammar_cases.specs.Readings.{Reading, maybe}
 use Rattle.hr_grammar_cases.specs.Blocks.{pieces_reading}
@@ -56,7 +57,7 @@ pub record ImportsGive : Type 0 where
 pub record AllGive (below : Derivations) : Type 0 where
   pub ty : (n : ℕ) (place : TyPlace) (ty : Ty) → Gives (ty_items ty) (below.ty n place ty)
   pub pat : (n : ℕ) (place : PatPlace) (pat : Pat) → Gives (pat_items pat) (below.pat n place pat)
-  pub exp : (n : ℕ) (free : Bool) (place : ExpPlace) (exp : Exp) (ending : Ending) → Gives (exp_items exp) (below.exp n free place exp ending)
+  pub exp : (n : ℕ) (free : Colons) (place : ExpPlace) (exp : Exp) (ending : Ending) → Gives (exp_items exp) (below.exp n free place exp ending)
   pub decl : (n : ℕ) (place : DeclPlace) (decl : Decl) (ending : Ending) → Gives (decl_items decl) (below.decl n place decl ending)
   pub alt : (n : ℕ) (alt : Alt) (ending : Ending) → Gives (alt_items alt) (below.alt n alt ending)
   pub declarations : (m : ℕ) (place : DeclPlace) (block : Block Decl) → Gives (block_items decl_items block) (below.declarations m place block)
@@ -73,7 +74,7 @@ ModulesGive = (levels : ℕ) (tree : Module) (items : List Item) → Derives lev
 pub record AllAre (read : Derivations) (allowed : Nodes) : Type 0 where
   pub ty : (n : ℕ) (place : TyPlace) (ty : Ty) (ts us : List Placed) → read.ty n place ty ts us → allowed.ty place ty
   pub pat : (n : ℕ) (place : PatPlace) (pat : Pat) (ts us : List Placed) → read.pat n place pat ts us → allowed.pat place pat
-  pub exp : (n : ℕ) (free : Bool) (place : ExpPlace) (exp : Exp) (ending : Ending) (ts us : List Placed) → read.exp n free place exp ending ts us → allowed.exp free place exp
+  pub exp : (n : ℕ) (free : Colons) (place : ExpPlace) (exp : Exp) (ending : Ending) (ts us : List Placed) → read.exp n free place exp ending ts us → allowed.exp free place exp
   pub decl : (n : ℕ) (place : DeclPlace) (decl : Decl) (ending : Ending) (ts us : List Placed) → read.decl n place decl ending ts us → allowed.decl place decl
   pub alt : (n : ℕ) (alt : Alt) (ending : Ending) (ts us : List Placed) → read.alt n alt ending ts us → allowed.alt alt
   pub declarations : (m : ℕ) (place : DeclPlace) (block : Block Decl) (ts us : List Placed) → read.declarations m place block ts us → allowed.declarations place block
@@ -82,17 +83,16 @@ pub record AllAre (read : Derivations) (allowed : Nodes) : Type 0 where
 abbrev pub LevelsAre : Type 0
 LevelsAre = (levels : ℕ) → AllAre (derivations levels) (nodes levels)
 
--- what is read as a module is yielded by a tree of the grammar, within the limit on nesting and without it
+-- what is read as a module is a tree of the grammar, and is yielded by it within the limit on nesting
 pub record ModulesAre : Type 0 where
   pub grammar : (levels : ℕ) (tree : Module) (items : List Item) → Derives levels tree items → IsModule levels tree
   pub yields : (tree : Module) (items : List Item) → Derives nesting_limit tree items → Yields tree (record { list = items; tail = tree.tail })
-  pub deep : (levels : ℕ) (tree : Module) (items : List Item) → Derives levels tree items → DeepYields tree (record { list = items; tail = tree.tail })
 
 -- what is read of types, patterns and expressions is a lexeme or more
 pub record ReadingsShrink : Type 0 where
   pub types : (levels n : ℕ) (place : TyPlace) (ty : Ty) (ts us : List Placed) → (derivations levels).ty n place ty ts us → length us < length ts
   pub patterns : (levels n : ℕ) (place : PatPlace) (pat : Pat) (ts us : List Placed) → (derivations levels).pat n place pat ts us → length us < length ts
-  pub expressions : (levels n : ℕ) (free : Bool) (place : ExpPlace) (exp : Exp) (ending : Ending) (ts us : List Placed)
+  pub expressions : (levels n : ℕ) (free : Colons) (place : ExpPlace) (exp : Exp) (ending : Ending) (ts us : List Placed)
       → (derivations levels).exp n free place exp ending ts us → length us < length ts
 
 -- where the pieces of a block go on or end behind a part, nothing can go on in the part
@@ -104,7 +104,7 @@ pub record PiecesStop : Type 0 where
 
 -- an expression, a declaration and an alternative don't end as an empty part does
 pub record EndingsAreSome (read : Derivations) : Type 0 where
-  pub exp : (n : ℕ) (free : Bool) (place : ExpPlace) (exp : Exp) (ending : Ending) (ts us : List Placed) → read.exp n free place exp ending ts us → ending ≢ Ending.Nothing
+  pub exp : (n : ℕ) (free : Colons) (place : ExpPlace) (exp : Exp) (ending : Ending) (ts us : List Placed) → read.exp n free place exp ending ts us → ending ≢ Ending.Nothing
   pub decl : (n : ℕ) (place : DeclPlace) (decl : Decl) (ending : Ending) (ts us : List Placed) → read.decl n place decl ending ts us → ending ≢ Ending.Nothing
   pub alt : (n : ℕ) (alt : Alt) (ending : Ending) (ts us : List Placed) → read.alt n alt ending ts us → ending ≢ Ending.Nothing
 
@@ -115,6 +115,8 @@ PartsEnd = (levels : ℕ) → EndingsAreSome (derivations levels)
 abbrev pub ModulesStand : Type 0
 ModulesStand = (levels : ℕ) (tree : Module) (items : List Item) → Derives levels tree items → Offside tree
 
--- what is read as a module within the limit on nesting is yielded by a tree of the grammar that stands so
-abbrev pub ModulesYield : Type 0
-ModulesYield = (tree : Module) (items : List Item) → Derives nesting_limit tree items → Yields tree (record { list = items; tail = tree.tail }) × Offside tree
+-- what is read as a module within the limit on nesting is yielded by a tree of the grammar that stands so, and what is
+-- read on any level by a deep one
+pub record ModulesYield : Type 0 where
+  pub yields : (tree : Module) (items : List Item) → Derives nesting_limit tree items → Yields tree (record { list = items; tail = tree.tail }) × Offside tree
+  pub deep : (levels : ℕ) (tree : Module) (items : List Item) → Derives levels tree items → DeepYields tree (record { list = items; tail = tree.tail })

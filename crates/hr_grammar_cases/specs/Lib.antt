@@ -8,4 +8,5 @@ pub mod Modules
 pub mod Patterns
 pub mod Readings
 pub mod Types
+pub mod Widening
 pub mod Worked

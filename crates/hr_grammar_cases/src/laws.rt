@@ -1,5 +1,6 @@
 //! Laws of the relation.
 ghost use Rattle.hr_grammar_cases.specs.Laws.{ImportsGive, LevelsAre, LevelsGive, ModulesAre, ModulesGive, ModulesStand, ModulesYield, PartsEnd, PatternsGive, PiecesStop, ReadingsShrink, TypesGive};
+ghost use Rattle.hr_grammar_cases.specs.Widening.{LevelsWiden, ModulesWiden};
 ghost use Rattle.hr_grammar_cases.specs.Worked.{WorkedTexts};
 
 /// A type that is read takes its own items.
@@ -32,7 +33,7 @@ pub fn levels_are()
     ensures { LevelsAre }
 {}
 
-/// What is read as a module is yielded by a tree of the grammar.
+/// What is read as a module is a tree of the grammar, and is yielded by it.
 pub fn modules_are()
     ensures { ModulesAre }
 {}
@@ -62,7 +63,19 @@ pub fn modules_stand()
     ensures { ModulesStand }
 {}
 
-/// What is read as a module within the limit on nesting is yielded by a tree of the grammar whose blocks stand so.
+/// What is read as a module within the limit on nesting is yielded by a tree of the grammar whose blocks stand so, and
+/// what is read on any level by a deep one.
 pub fn modules_yield()
     ensures { ModulesYield }
+{}
+
+/// What is read with so many levels of nodes is read with more: types, patterns, expressions, declarations,
+/// alternatives and blocks.
+pub fn levels_widen()
+    ensures { LevelsWiden }
+{}
+
+/// What is read as a module with so many levels of nodes is read as it with more.
+pub fn modules_widen()
+    ensures { ModulesWiden }
 {}

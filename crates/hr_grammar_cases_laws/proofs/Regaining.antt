@@ -10,7 +10,7 @@ use Rattle.hr_rules.specs.declared.block.Placed.{Placed}
 use Rattle.hr_rules.specs.Blocks.{mark, goes_on, is_open_brace}
 use Rattle.hr_rules.specs.Roles.{role_by, role_of}
 use Rattle.hr_grammar.specs.Words.{IsOf, IsText}
-use Rattle.hr_grammar.specs.Spans.{Span, Laid, bare, one as one_laid, ending_as}
+use Rattle.hr_grammar.specs.Spans.{Span, Laid, blockless, one as one_laid, ending_as}
 use Rattle.hr_grammar.specs.Offside.{placed_among, StandsWell}
 use Rattle.hr_grammar_cases.specs.Readings.{Reading, nothing, takes, ◌▷◌, given, one, take_all}
 use Rattle.hr_grammar_cases.specs.Laws.{items_left}
@@ -207,7 +207,7 @@ then_regains {text} {n} {opened} {a} {b} {items} {others} {first} {second} cut g
 }
 
 -- ---- lexemes without a block
-pub nothing_regains : {text : Text} {n : ℕ} → Regains text n false (bare []) [] nothing
+pub nothing_regains : {text : Text} {n : ℕ} → Regains text n false (blockless []) [] nothing
 nothing_regains {text} {n} = record {
   size = refl;
   within = λ start span has. elim has [ ];
@@ -265,17 +265,17 @@ takes_regains {text} {n} item = record {
 pub one_regains : {text : Text} {n : ℕ} (Is : Item → Type 0) (item : Item) → Is item → Regains text n false (one_laid item) (item ∷ []) (one n Is item)
 one_regains Is item is = given_regains is (takes_regains item)
 
-pub all_regain : {text : Text} {n : ℕ} (items : List Item) → Regains text n false (bare items) items (take_all n items)
+pub all_regain : {text : Text} {n : ℕ} (items : List Item) → Regains text n false (blockless items) items (take_all n items)
 all_regain [] = nothing_regains
 all_regain (item ∷ items) = same_regains (bare_then item items) refl (then_regains (inl (λ start. refl)) (takes_regains item) (all_regain items))
 
 -- a reading that knows nothing of layout
-pub retaken_regains : {text : Text} {n : ℕ} {items : List Item} {reading : Reading} → Retakes n items reading → Regains text n false (bare items) items reading
+pub retaken_regains : {text : Text} {n : ℕ} {items : List Item} {reading : Reading} → Retakes n items reading → Regains text n false (blockless items) items reading
 retaken_regains {items = items} t = through t.retakes (all_regain items)
 
 -- such a reading, or an own lexeme, before another one
 pub bare_then_regains : {text : Text} {n : ℕ} {b : Laid} {items others : List Item} {first second : Reading} → Retakes n items first → Regains text n false b others second
-    → Regains text n false (beside (bare items) b) (items ++ others) (first ▷ second)
+    → Regains text n false (beside (blockless items) b) (items ++ others) (first ▷ second)
 bare_then_regains t h = then_regains (inl (λ start. refl)) (retaken_regains t) h
 
 pub one_then_regains : {text : Text} {n : ℕ} {b : Laid} {others : List Item} {second : Reading} (Is : Item → Type 0) (item : Item) → Is item → Regains text n false b others second

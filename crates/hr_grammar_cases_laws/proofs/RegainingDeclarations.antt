@@ -23,9 +23,9 @@ use Rattle.hr_tree.specs.Yields.{construction_items, decl_layer, exp_layer, qual
 use Rattle.hr_tree.proofs.ExpressionYields.{decl_equation, decl_binding, alt_whole}
 use Rattle.hr_grammar.specs.Words.{IsOf, IsWord, IsEquals, IsArrow, IsBar, IsComma, IsDoubleColon}
 use Rattle.hr_grammar.specs.Spelled.{IsVariable, IsOwnOperator}
-use Rattle.hr_grammar.specs.Nodes.{Nodes, TyPlace, PatPlace, ExpPlace, DeclPlace}
+use Rattle.hr_grammar.specs.Nodes.{Nodes, Colons, TyPlace, PatPlace, ExpPlace, DeclPlace}
 use Rattle.hr_grammar.specs.Declarations.{IsDigit, IsConstructionOver, IsGuardedOver, IsBodyOver, IsWhereOver, DeclProduction, IsDeclOver, IsAltOver}
-use Rattle.hr_grammar.specs.Spans.{Laid, part_ending, guarded_laid, decl_laid, exp_laid, qualifier_laid, alt_laid}
+use Rattle.hr_grammar.specs.Spans.{Laid, part_ending, guarded_laid, decl_laid, exp_laid, qualifier_laid, alt_laid, top_ending}
 use Rattle.hr_grammar_cases.specs.Readings.{inside}
 use Rattle.hr_grammar_cases.specs.Derivations.{Derivations}
 use Rattle.hr_grammar_cases.specs.Declarations.{construction_reading, guarded_reading, guards_reading, body_reading, right_side_reading, decl_reading, decl_over, alt_over}
@@ -54,8 +54,8 @@ guarded_regains : (text : Text) (below : Derivations) (allowed : Nodes) → AllR
 guarded_regains text below allowed each n IsMark firm guarded is =
     through (λ ts us r. (r.2.2.2.0, (r.0, r.1, (r.2.0, r.2.1, (r.2.2.0, r.2.2.1, r.2.2.2.1)))))
     (one_then_regains IsBar guarded.bar is.0
-    (then_regains (inr (λ rest nb. firm guarded.mark is.1.1.0)) (each.exp n false ExpPlace.Sequence guarded.guard is.1.0)
-    (one_then_regains IsMark guarded.mark is.1.1.0 (each.exp n true ExpPlace.Whole guarded.body is.1.1.1))))
+    (then_regains (inr (λ rest nb. firm guarded.mark is.1.1.0)) (each.exp n Colons.Barred ExpPlace.Sequence guarded.guard is.1.0)
+    (one_then_regains IsMark guarded.mark is.1.1.0 (each.exp n Colons.Allowed ExpPlace.Whole guarded.body is.1.1.1))))
 
 guards_regain : (text : Text) (below : Derivations) (allowed : Nodes) → AllRegain text below allowed → (n : ℕ) (IsMark : Item → Type 0) → MarksFirm IsMark → (list : List (Guarded Exp)) → list ≢ []
     → AllByRecursion (IsGuardedOver allowed IsMark) list → Regains text n false (guards_laid list) (flat_map (guarded_items exp_items) list) (inside (guards_reading below n IsMark list))
@@ -75,7 +75,7 @@ body_regains : (text : Text) (below : Derivations) (allowed : Nodes) → AllRega
     → IsBodyOver allowed IsMark body → Regains text n false (body_by body) (body_items exp_items body) (inside (body_reading below n IsMark body))
 body_regains text below allowed each n IsMark firm (Body.Plain mark body) is =
     through (λ ts us r. (part_ending false r.2.0, (r.2.0, refl, (r.0, r.1, r.2.1))))
-    (ending_regains (part_ending false (laid_exp body).ending) (one_then_regains IsMark mark is.0 (each.exp n true ExpPlace.Whole body is.1)))
+    (ending_regains (part_ending false (laid_exp body).ending) (one_then_regains IsMark mark is.0 (each.exp n Colons.Allowed ExpPlace.Whole body is.1)))
 body_regains text below allowed each n IsMark firm (Body.Guarded list) is =
     through (λ ts us r. (part_ending true r.0, (r.0, refl, r.1)))
     (ending_regains (part_ending true (guards_laid list).ending) (guards_regain text below allowed each n IsMark firm list is.0 is.1))
@@ -97,19 +97,19 @@ decl_regains : (text : Text) (below : Derivations) (allowed : Nodes) → AllReta
 decl_regains text below allowed take each n place (Decl-F.Import import) is =
     same_regains (sym (fold-roll-Decl Laid Laid Laid Laid decl_laid exp_laid qualifier_laid alt_laid (Decl-F.Import import)))
     (sym (fold-roll-Decl (List Item) (List Item) (List Item) (List Item) decl_layer exp_layer qualifier_layer alt_layer (Decl-F.Import import)))
-    (through (λ ts us r. (Ending.WhereBlock, ((refl, is.0), r))) (ending_regains Ending.Nothing (retaken_regains (import_retakes n import is.1))))
+    (through (λ ts us r. (top_ending, ((refl, is.0), r))) (ending_regains top_ending (retaken_regains (import_retakes n import is.1))))
 decl_regains text below allowed take each n place (Decl-F.Synonym word head equals ty) is =
     same_regains (sym (fold-roll-Decl Laid Laid Laid Laid decl_laid exp_laid qualifier_laid alt_laid (Decl-F.Synonym word head equals ty)))
     (sym (fold-roll-Decl (List Item) (List Item) (List Item) (List Item) decl_layer exp_layer qualifier_layer alt_layer (Decl-F.Synonym word head equals ty)))
-    (through (λ ts us r. (Ending.WhereBlock, ((refl, is.0), r)))
-    (ending_regains Ending.Nothing
+    (through (λ ts us r. (top_ending, ((refl, is.0), r)))
+    (ending_regains top_ending
     (one_then_regains (IsWord (codes "type")) word is.1
     (bare_then_regains (type_head_retakes n head is.2) (one_then_regains IsEquals equals is.3 (retaken_regains (take.ty n TyPlace.Whole ty is.4)))))))
 decl_regains text below allowed take each n place (Decl-F.Data word head equals constructions) is =
     same_regains (sym (fold-roll-Decl Laid Laid Laid Laid decl_laid exp_laid qualifier_laid alt_laid (Decl-F.Data word head equals constructions)))
     (sym (fold-roll-Decl (List Item) (List Item) (List Item) (List Item) decl_layer exp_layer qualifier_layer alt_layer (Decl-F.Data word head equals constructions)))
-    (through (λ ts us r. (Ending.WhereBlock, ((refl, (is.0, is.5)), r)))
-    (ending_regains Ending.Nothing
+    (through (λ ts us r. (top_ending, ((refl, (is.0, is.5)), r)))
+    (ending_regains top_ending
     (one_then_regains (IsWord (codes "data")) word is.1
     (bare_then_regains (type_head_retakes n head is.2)
     (one_then_regains IsEquals equals is.3
@@ -117,8 +117,8 @@ decl_regains text below allowed take each n place (Decl-F.Data word head equals 
 decl_regains text below allowed take each n place (Decl-F.Newtype word head equals construction) is =
     same_regains (sym (fold-roll-Decl Laid Laid Laid Laid decl_laid exp_laid qualifier_laid alt_laid (Decl-F.Newtype word head equals construction)))
     (sym (fold-roll-Decl (List Item) (List Item) (List Item) (List Item) decl_layer exp_layer qualifier_layer alt_layer (Decl-F.Newtype word head equals construction)))
-    (through (λ ts us r. (Ending.WhereBlock, ((refl, is.0), r)))
-    (ending_regains Ending.Nothing
+    (through (λ ts us r. (top_ending, ((refl, is.0), r)))
+    (ending_regains top_ending
     (one_then_regains (IsWord (codes "newtype")) word is.1
     (bare_then_regains (type_head_retakes n head is.2)
     (one_then_regains IsEquals equals is.3 (retaken_regains (new_construction_retakes below allowed take n construction is.4)))))))

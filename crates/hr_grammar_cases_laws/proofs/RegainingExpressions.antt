@@ -1,5 +1,5 @@
 -- Expressions of the grammar that stand are read.
-use Rattle.std.proofs.Common.{◌≡◌, ℕ, Bool, true, false, List, [], ◌∷◌, ◌++◌, Option, Some, None, refl, sym, ap, ◌∙◌, subst, inr}
+use Rattle.std.proofs.Common.{◌≡◌, ℕ, false, List, [], ◌∷◌, ◌++◌, Option, Some, None, refl, sym, ap, ◌∙◌, subst, inr}
 use Rattle.std.specs.List.{flat_map}
 use lib.Chars.{codes}
 use Rattle.hr_base.specs.declared.lexeme.Class.{Class}
@@ -24,7 +24,7 @@ use Rattle.hr_tree.specs.Yields.{pat_items, decl_layer, exp_layer, qualifier_lay
 use Rattle.hr_tree.proofs.ExpressionYields.{exp_group, exp_tuple, exp_list, exp_from, exp_from_then, exp_from_to, exp_from_then_to, exp_comprehension, exp_left_section, exp_right_section, exp_apply, exp_infix, exp_annotated, exp_lambda, exp_let, exp_if, exp_case, qualifier_generator, qualifier_locals, qualifier_test}
 use Rattle.hr_grammar.specs.Words.{IsWord, IsReserved, IsLiteral, IsMinus, IsLeftParen, IsRightParen, IsLeftSquare, IsRightSquare, IsComma, IsBar, IsDots, IsArrow, IsBackArrow, IsDoubleColon}
 use Rattle.hr_grammar.specs.Spelled.{Maybe, IsNamedVariable, IsConstructor, IsOperator}
-use Rattle.hr_grammar.specs.Nodes.{Nodes, TyPlace, PatPlace, ExpPlace}
+use Rattle.hr_grammar.specs.Nodes.{Nodes, Colons, TyPlace, PatPlace, ExpPlace}
 use Rattle.hr_grammar.specs.Expressions.{last_operand, AreExpOperands, QualifierProduction, IsQualifierOver, ExpProduction}
 use Rattle.hr_grammar.specs.Spans.{Laid, one as one_laid, ending_as, block_laid, decl_laid, exp_laid, qualifier_laid, alt_laid}
 use Rattle.hr_grammar_cases.specs.Readings.{Reading, take_all, inside, given}
@@ -58,7 +58,7 @@ minus_begun : (minus : Option Item) (items : List Item) → Maybe IsMinus minus 
 minus_begun None items is b = b
 minus_begun (Some minus) items is b = text_firm Class.VarSym (codes "-") minus is refl
 
-operands_begun : (text : Text) (below : Derivations) (allowed : Nodes) → AllRegain text below allowed → (free : Bool) (last : ExpPlace) (operand : Operand Exp) (rest : List (Operand Exp))
+operands_begun : (text : Text) (below : Derivations) (allowed : Nodes) → AllRegain text below allowed → (free : Colons) (last : ExpPlace) (operand : Operand Exp) (rest : List (Operand Exp))
     → AreExpOperands allowed free last (operand ∷ rest) → Begun (flat_map (operand_items exp_items) (operand ∷ rest))
 operands_begun text below allowed each free last operand [] are =
     begun_more (operand_items exp_items operand) [] (minus_begun operand.minus (exp_items operand.part ++ maybe_operator operand.operator) are.0
@@ -67,7 +67,7 @@ operands_begun text below allowed each free last operand (next ∷ rest) are =
     begun_more (operand_items exp_items operand) (flat_map (operand_items exp_items) (next ∷ rest)) (minus_begun operand.minus (exp_items operand.part ++ maybe_operator operand.operator) are.0
     (begun_more (exp_items operand.part) (maybe_operator operand.operator) (each.exp_begins free ExpPlace.Operand operand.part are.1)))
 
-operands_regain : (text : Text) (below : Derivations) (allowed : Nodes) → AllRegain text below allowed → (n : ℕ) (free : Bool) (last : ExpPlace) (operands : List (Operand Exp)) → AreExpOperands allowed free last operands
+operands_regain : (text : Text) (below : Derivations) (allowed : Nodes) → AllRegain text below allowed → (n : ℕ) (free : Colons) (last : ExpPlace) (operands : List (Operand Exp)) → AreExpOperands allowed free last operands
     → Regains text n false (operands_laid operands) (flat_map (operand_items exp_items) operands) (inside (exp_operands below n free last operands))
 operands_regain text below allowed each n free last [] are = elim are [ ]
 operands_regain text below allowed each n free last (operand ∷ []) are =
@@ -93,14 +93,14 @@ qualifier_begun text below allowed each (Qualifier-F.Generator pattern arrow par
 qualifier_begun text below allowed each (Qualifier-F.Locals word block) is =
     subst Begun (sym (ap qualifier_items (rolls-Locals word block) ∙ qualifier_locals word block)) (text_firm Class.ReservedId (codes "let") word is.0 refl)
 qualifier_begun text below allowed each (Qualifier-F.Test part) is =
-    subst Begun (sym (ap qualifier_items (rolls-Test part) ∙ qualifier_test part)) (each.exp_begins true ExpPlace.Whole part is)
+    subst Begun (sym (ap qualifier_items (rolls-Test part) ∙ qualifier_test part)) (each.exp_begins Colons.Allowed ExpPlace.Whole part is)
 
 qualifier_layer_regains : (text : Text) (below : Derivations) (allowed : Nodes) → AllRetake below allowed → AllRegain text below allowed → (n : ℕ) (layer : Qualifier-F Decl Exp Qualifier Alt)
     → QualifierProduction allowed layer → Regains text n false (laid_qualifier (roll-Qualifier layer)) (qualifier_items (roll-Qualifier layer)) (qualifier_reading below n layer)
 qualifier_layer_regains text below allowed take each n (Qualifier-F.Generator pattern arrow part) is =
     same_regains (sym (fold-roll-Qualifier Laid Laid Laid Laid decl_laid exp_laid qualifier_laid alt_laid (Qualifier-F.Generator pattern arrow part)))
     (sym (ap qualifier_items (rolls-Generator pattern arrow part) ∙ qualifier_generator pattern arrow part))
-    (bare_then_regains (take.pat n PatPlace.Whole pattern is.0) (one_then_regains IsBackArrow arrow is.1 (each.exp n true ExpPlace.Whole part is.2)))
+    (bare_then_regains (take.pat n PatPlace.Whole pattern is.0) (one_then_regains IsBackArrow arrow is.1 (each.exp n Colons.Allowed ExpPlace.Whole part is.2)))
 qualifier_layer_regains text below allowed take each n (Qualifier-F.Locals word block) is =
     same_regains (sym (fold-roll-Qualifier Laid Laid Laid Laid decl_laid exp_laid qualifier_laid alt_laid (Qualifier-F.Locals word block)
     ∙ ap (λ ps. beside (one_laid word) (block_laid BlockKind.Declarations (record { layout = block.layout; pieces = ps }))) (pieces_turned laid_decl _ (λ item. refl) (λ part. refl) block.pieces)))
@@ -108,7 +108,7 @@ qualifier_layer_regains text below allowed take each n (Qualifier-F.Locals word 
     (opens_regains (IsWord (codes "let")) word is.0 (each.declarations n block is.1))
 qualifier_layer_regains text below allowed take each n (Qualifier-F.Test part) is =
     same_regains (sym (fold-roll-Qualifier Laid Laid Laid Laid decl_laid exp_laid qualifier_laid alt_laid (Qualifier-F.Test part))) (sym (ap qualifier_items (rolls-Test part) ∙ qualifier_test part))
-    (each.exp n true ExpPlace.Whole part is)
+    (each.exp n Colons.Allowed ExpPlace.Whole part is)
 
 whole_qualifier : (text : Text) (below : Derivations) (allowed : Nodes) → AllRegain text below allowed → (qualifier : Qualifier) → IsQualifierOver allowed qualifier → Begun (qualifier_items qualifier)
 whole_qualifier text below allowed each qualifier is = subst (λ q. Begun (qualifier_items q)) (roll-out-Qualifier qualifier) (qualifier_begun text below allowed each (out-Qualifier qualifier) is)
@@ -126,7 +126,7 @@ atom : {text : Text} {n : ℕ} {laid : Laid} {items : List Item} {reading : Read
 atom s = through (λ ts us r. (applied, (refl, r))) s
 
 -- one level, where trees on the level below are read
-exp_regains : (text : Text) (below : Derivations) (allowed : Nodes) → AllRetake below allowed → AllRegain text below allowed → (n : ℕ) (free : Bool) (place : ExpPlace) (layer : Exp-F Decl Exp Qualifier Alt)
+exp_regains : (text : Text) (below : Derivations) (allowed : Nodes) → AllRetake below allowed → AllRegain text below allowed → (n : ℕ) (free : Colons) (place : ExpPlace) (layer : Exp-F Decl Exp Qualifier Alt)
     → ExpProduction allowed free place layer → Regains text n false (laid_exp (roll-Exp layer)) (exp_items (roll-Exp layer)) (inside (exp_reading below n free place layer))
 exp_regains text below allowed take each n free place (Exp-F.Variable used) is =
     same_regains (sym (fold-roll-Exp Laid Laid Laid Laid decl_laid exp_laid qualifier_laid alt_laid (Exp-F.Variable used))) (sym (fold-roll-Exp (List Item) (List Item) (List Item) (List Item) decl_layer exp_layer qualifier_layer alt_layer (Exp-F.Variable used)))
@@ -139,34 +139,34 @@ exp_regains text below allowed take each n free place (Exp-F.Literal literal) is
     (atom (one_regains IsLiteral literal is))
 exp_regains text below allowed take each n free place (Exp-F.Group left part right) is =
     same_regains (sym (fold-roll-Exp Laid Laid Laid Laid decl_laid exp_laid qualifier_laid alt_laid (Exp-F.Group left part right))) (sym (ap exp_items (rolls-Group left part right) ∙ exp_group left part right))
-    (atom (one_then_regains IsLeftParen left is.0 (then_regains (inr (firm_text Class.Special (codes ")") right [] is.2 refl)) (each.exp n true ExpPlace.Whole part is.1) (one_regains IsRightParen right is.2))))
+    (atom (one_then_regains IsLeftParen left is.0 (then_regains (inr (firm_text Class.Special (codes ")") right [] is.2 refl)) (each.exp n Colons.Allowed ExpPlace.Whole part is.1) (one_regains IsRightParen right is.2))))
 exp_regains text below allowed take each n free place (Exp-F.Tuple left parts right) is =
     same_regains (sym (fold-roll-Exp Laid Laid Laid Laid decl_laid exp_laid qualifier_laid alt_laid (Exp-F.Tuple left parts right))) (sym (ap exp_items (rolls-Tuple left parts right) ∙ exp_tuple left parts right))
-    (atom (given_regains is.2 (one_then_regains IsLeftParen left is.0 (then_regains (inr (firm_text Class.Special (codes ")") right [] is.3 refl)) (separated_regain IsComma comma_firm laid_exp exp_items _ (allowed.exp true ExpPlace.Whole) (each.exp_begins true ExpPlace.Whole) (each.exp n true ExpPlace.Whole) parts is.1) (one_regains IsRightParen right is.3)))))
+    (atom (given_regains is.2 (one_then_regains IsLeftParen left is.0 (then_regains (inr (firm_text Class.Special (codes ")") right [] is.3 refl)) (separated_regain IsComma comma_firm laid_exp exp_items _ (allowed.exp Colons.Allowed ExpPlace.Whole) (each.exp_begins Colons.Allowed ExpPlace.Whole) (each.exp n Colons.Allowed ExpPlace.Whole) parts is.1) (one_regains IsRightParen right is.3)))))
 exp_regains text below allowed take each n free place (Exp-F.List left parts right) is =
     same_regains (sym (fold-roll-Exp Laid Laid Laid Laid decl_laid exp_laid qualifier_laid alt_laid (Exp-F.List left parts right))) (sym (ap exp_items (rolls-List left parts right) ∙ exp_list left parts right))
-    (atom (given_regains is.2 (one_then_regains IsLeftSquare left is.0 (then_regains (inr (firm_text Class.Special (codes "]") right [] is.3 refl)) (separated_regain IsComma comma_firm laid_exp exp_items _ (allowed.exp true ExpPlace.Whole) (each.exp_begins true ExpPlace.Whole) (each.exp n true ExpPlace.Whole) parts is.1) (one_regains IsRightSquare right is.3)))))
+    (atom (given_regains is.2 (one_then_regains IsLeftSquare left is.0 (then_regains (inr (firm_text Class.Special (codes "]") right [] is.3 refl)) (separated_regain IsComma comma_firm laid_exp exp_items _ (allowed.exp Colons.Allowed ExpPlace.Whole) (each.exp_begins Colons.Allowed ExpPlace.Whole) (each.exp n Colons.Allowed ExpPlace.Whole) parts is.1) (one_regains IsRightSquare right is.3)))))
 exp_regains text below allowed take each n free place (Exp-F.From left first dots right) is =
     same_regains (sym (fold-roll-Exp Laid Laid Laid Laid decl_laid exp_laid qualifier_laid alt_laid (Exp-F.From left first dots right))) (sym (ap exp_items (rolls-From left first dots right) ∙ exp_from left first dots right))
-    (atom (one_then_regains IsLeftSquare left is.0 (then_regains (inr (firm_text Class.ReservedOp (codes "..") dots [] is.2 refl)) (each.exp n true ExpPlace.Whole first is.1) (one_then_regains IsDots dots is.2 (one_regains IsRightSquare right is.3)))))
+    (atom (one_then_regains IsLeftSquare left is.0 (then_regains (inr (firm_text Class.ReservedOp (codes "..") dots [] is.2 refl)) (each.exp n Colons.Allowed ExpPlace.Whole first is.1) (one_then_regains IsDots dots is.2 (one_regains IsRightSquare right is.3)))))
 exp_regains text below allowed take each n free place (Exp-F.FromThen left first comma second dots right) is =
     same_regains (sym (fold-roll-Exp Laid Laid Laid Laid decl_laid exp_laid qualifier_laid alt_laid (Exp-F.FromThen left first comma second dots right))) (sym (ap exp_items (rolls-FromThen left first comma second dots right) ∙ exp_from_then left first comma second dots right))
-    (atom (one_then_regains IsLeftSquare left is.0 (then_regains (inr (firm_text Class.Special (codes ",") comma [] is.2 refl)) (each.exp n true ExpPlace.Whole first is.1) (one_then_regains IsComma comma is.2 (then_regains (inr (firm_text Class.ReservedOp (codes "..") dots [] is.4 refl)) (each.exp n true ExpPlace.Whole second is.3) (one_then_regains IsDots dots is.4 (one_regains IsRightSquare right is.5)))))))
+    (atom (one_then_regains IsLeftSquare left is.0 (then_regains (inr (firm_text Class.Special (codes ",") comma [] is.2 refl)) (each.exp n Colons.Allowed ExpPlace.Whole first is.1) (one_then_regains IsComma comma is.2 (then_regains (inr (firm_text Class.ReservedOp (codes "..") dots [] is.4 refl)) (each.exp n Colons.Allowed ExpPlace.Whole second is.3) (one_then_regains IsDots dots is.4 (one_regains IsRightSquare right is.5)))))))
 exp_regains text below allowed take each n free place (Exp-F.FromTo left first dots last right) is =
     same_regains (sym (fold-roll-Exp Laid Laid Laid Laid decl_laid exp_laid qualifier_laid alt_laid (Exp-F.FromTo left first dots last right))) (sym (ap exp_items (rolls-FromTo left first dots last right) ∙ exp_from_to left first dots last right))
-    (atom (one_then_regains IsLeftSquare left is.0 (then_regains (inr (firm_text Class.ReservedOp (codes "..") dots [] is.2 refl)) (each.exp n true ExpPlace.Whole first is.1) (one_then_regains IsDots dots is.2 (then_regains (inr (firm_text Class.Special (codes "]") right [] is.4 refl)) (each.exp n true ExpPlace.Whole last is.3) (one_regains IsRightSquare right is.4))))))
+    (atom (one_then_regains IsLeftSquare left is.0 (then_regains (inr (firm_text Class.ReservedOp (codes "..") dots [] is.2 refl)) (each.exp n Colons.Allowed ExpPlace.Whole first is.1) (one_then_regains IsDots dots is.2 (then_regains (inr (firm_text Class.Special (codes "]") right [] is.4 refl)) (each.exp n Colons.Allowed ExpPlace.Whole last is.3) (one_regains IsRightSquare right is.4))))))
 exp_regains text below allowed take each n free place (Exp-F.FromThenTo left first comma second dots last right) is =
     same_regains (sym (fold-roll-Exp Laid Laid Laid Laid decl_laid exp_laid qualifier_laid alt_laid (Exp-F.FromThenTo left first comma second dots last right))) (sym (ap exp_items (rolls-FromThenTo left first comma second dots last right) ∙ exp_from_then_to left first comma second dots last right))
-    (atom (one_then_regains IsLeftSquare left is.0 (then_regains (inr (firm_text Class.Special (codes ",") comma [] is.2 refl)) (each.exp n true ExpPlace.Whole first is.1) (one_then_regains IsComma comma is.2 (then_regains (inr (firm_text Class.ReservedOp (codes "..") dots [] is.4 refl)) (each.exp n true ExpPlace.Whole second is.3) (one_then_regains IsDots dots is.4 (then_regains (inr (firm_text Class.Special (codes "]") right [] is.6 refl)) (each.exp n true ExpPlace.Whole last is.5) (one_regains IsRightSquare right is.6))))))))
+    (atom (one_then_regains IsLeftSquare left is.0 (then_regains (inr (firm_text Class.Special (codes ",") comma [] is.2 refl)) (each.exp n Colons.Allowed ExpPlace.Whole first is.1) (one_then_regains IsComma comma is.2 (then_regains (inr (firm_text Class.ReservedOp (codes "..") dots [] is.4 refl)) (each.exp n Colons.Allowed ExpPlace.Whole second is.3) (one_then_regains IsDots dots is.4 (then_regains (inr (firm_text Class.Special (codes "]") right [] is.6 refl)) (each.exp n Colons.Allowed ExpPlace.Whole last is.5) (one_regains IsRightSquare right is.6))))))))
 exp_regains text below allowed take each n free place (Exp-F.Comprehension left part bar qualifiers right) is =
     same_regains (sym (fold-roll-Exp Laid Laid Laid Laid decl_laid exp_laid qualifier_laid alt_laid (Exp-F.Comprehension left part bar qualifiers right))) (sym (ap exp_items (rolls-Comprehension left part bar qualifiers right) ∙ exp_comprehension left part bar qualifiers right))
-    (atom (given_regains is.4 (one_then_regains IsLeftSquare left is.0 (then_regains (inr (firm_text Class.ReservedOp (codes "|") bar [] is.2 refl)) (each.exp n true ExpPlace.Whole part is.1) (one_then_regains IsBar bar is.2 (then_regains (inr (firm_text Class.Special (codes "]") right [] is.5 refl)) (separated_regain IsComma comma_firm laid_qualifier qualifier_items _ (IsQualifierOver allowed) (whole_qualifier text below allowed each) (qualifier_regains text below allowed take each n) qualifiers is.3) (one_regains IsRightSquare right is.5)))))))
+    (atom (given_regains is.4 (one_then_regains IsLeftSquare left is.0 (then_regains (inr (firm_text Class.ReservedOp (codes "|") bar [] is.2 refl)) (each.exp n Colons.Allowed ExpPlace.Whole part is.1) (one_then_regains IsBar bar is.2 (then_regains (inr (firm_text Class.Special (codes "]") right [] is.5 refl)) (separated_regain IsComma comma_firm laid_qualifier qualifier_items _ (IsQualifierOver allowed) (whole_qualifier text below allowed each) (qualifier_regains text below allowed take each n) qualifiers is.3) (one_regains IsRightSquare right is.5)))))))
 exp_regains text below allowed take each n free place (Exp-F.LeftSection left part operator right) is =
     same_regains (sym (fold-roll-Exp Laid Laid Laid Laid decl_laid exp_laid qualifier_laid alt_laid (Exp-F.LeftSection left part operator right))) (sym (ap exp_items (rolls-LeftSection left part operator right) ∙ exp_left_section left part operator right))
-    (atom (one_then_regains IsLeftParen left is.0 (then_regains (inr (begun_firm _ (begun_more (operator_items operator) _ (operator_begun operator is.2)))) (each.exp n true ExpPlace.Sequence part is.1) (bare_then_regains (spelled_retakes n IsOperator operator_items operator is.2) (one_regains IsRightParen right is.3)))))
+    (atom (one_then_regains IsLeftParen left is.0 (then_regains (inr (begun_firm _ (begun_more (operator_items operator) _ (operator_begun operator is.2)))) (each.exp n Colons.Allowed ExpPlace.Sequence part is.1) (bare_then_regains (spelled_retakes n IsOperator operator_items operator is.2) (one_regains IsRightParen right is.3)))))
 exp_regains text below allowed take each n free place (Exp-F.RightSection left operator part right) is =
     same_regains (sym (fold-roll-Exp Laid Laid Laid Laid decl_laid exp_laid qualifier_laid alt_laid (Exp-F.RightSection left operator part right))) (sym (ap exp_items (rolls-RightSection left operator part right) ∙ exp_right_section left operator part right))
-    (atom (given_regains is.2 (one_then_regains IsLeftParen left is.0 (bare_then_regains (spelled_retakes n IsOperator operator_items operator is.1) (then_regains (inr (firm_text Class.Special (codes ")") right [] is.4 refl)) (each.exp n true ExpPlace.Sequence part is.3) (one_regains IsRightParen right is.4))))))
+    (atom (given_regains is.2 (one_then_regains IsLeftParen left is.0 (bare_then_regains (spelled_retakes n IsOperator operator_items operator is.1) (then_regains (inr (firm_text Class.Special (codes ")") right [] is.4 refl)) (each.exp n Colons.Allowed ExpPlace.Sequence part is.3) (one_regains IsRightParen right is.4))))))
 exp_regains text below allowed take each n free place (Exp-F.Apply atoms) is =
     same_regains (sym (fold-roll-Exp Laid Laid Laid Laid decl_laid exp_laid qualifier_laid alt_laid (Exp-F.Apply atoms))) (sym (ap exp_items (rolls-Apply atoms) ∙ exp_apply atoms))
     (through (λ ts us r. (applied, ((refl, (is.0, is.1)), r)))
@@ -196,10 +196,10 @@ exp_regains text below allowed take each n free place (Exp-F.Infix operands) is 
 exp_regains text below allowed take each n free place (Exp-F.Annotated part colons ty) is =
     same_regains (sym (fold-roll-Exp Laid Laid Laid Laid decl_laid exp_laid qualifier_laid alt_laid (Exp-F.Annotated part colons ty))) (sym (ap exp_items (rolls-Annotated part colons ty) ∙ exp_annotated part colons ty))
     (through (λ ts us r. (annotated, ((refl, (is.0, is.1)), r)))
-    (ending_regains annotated (then_regains (inr (firm_text Class.ReservedOp (codes "::") colons [] is.3 refl)) (each.exp n true ExpPlace.Annotated part is.2) (one_then_regains IsDoubleColon colons is.3 (retaken_regains (take.ty n TyPlace.Whole ty is.4))))))
+    (ending_regains annotated (then_regains (inr (firm_text Class.ReservedOp (codes "::") colons [] is.3 refl)) (each.exp n Colons.Allowed ExpPlace.Annotated part is.2) (one_then_regains IsDoubleColon colons is.3 (retaken_regains (take.ty n TyPlace.Whole ty is.4))))))
 exp_regains text below allowed take each n free place (Exp-F.Fields part left fields right) is = elim is [ ]
 
-pub exp_over_regains : (text : Text) (below : Derivations) (allowed : Nodes) → AllRetake below allowed → AllRegain text below allowed → (n : ℕ) (free : Bool) (place : ExpPlace) (exp : Exp)
+pub exp_over_regains : (text : Text) (below : Derivations) (allowed : Nodes) → AllRetake below allowed → AllRegain text below allowed → (n : ℕ) (free : Colons) (place : ExpPlace) (exp : Exp)
     → ExpProduction allowed free place (out-Exp exp) → Regains text n false (laid_exp exp) (exp_items exp) (inside (exp_over below n free place exp))
 exp_over_regains text below allowed take each n free place exp is =
     same_regains (ap laid_exp (roll-out-Exp exp)) (ap exp_items (roll-out-Exp exp)) (exp_regains text below allowed take each n free place (out-Exp exp) is)

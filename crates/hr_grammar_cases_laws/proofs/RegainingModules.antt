@@ -2,7 +2,6 @@
 use Rattle.std.proofs.Common.{◌≡◌, ◌≤◌, ◌+◌, ◌||◌, ℕ, zero, suc, not, nat_lt, Bool, true, false, List, [], ◌∷◌, ◌++◌, length, drop, refl, sym, ap, ◌∙◌, subst, inl, inr, arith, lt-ltb}
 use Rattle.std.specs.List.{AllByRecursion}
 use Rattle.hr_base.specs.declared.lexeme.Item.{Item}
-use Rattle.hr_base.specs.declared.lexeme.Items.{Items}
 use Rattle.hr_rules.specs.declared.block.BlockKind.{BlockKind}
 use Rattle.hr_rules.specs.declared.block.Placed.{Placed}
 use Rattle.hr_rules.specs.Blocks.{placed_of, goes_on}
@@ -18,7 +17,7 @@ use Rattle.hr_grammar.specs.Nodes.{Nodes, DeclPlace}
 use Rattle.hr_grammar.specs.Firsts.{kind_at}
 use Rattle.hr_grammar.specs.Spans.{Span, block_laid, spans_of}
 use Rattle.hr_grammar.specs.Offside.{placed_among, StandsWell, Offside}
-use Rattle.hr_grammar.specs.Yields.{nodes, nesting_limit, IsModule}
+use Rattle.hr_grammar.specs.Yields.{nodes, IsModule}
 use Rattle.hr_grammar.proofs.Firsts.{patterns_begin_lem, expressions_begin_lem}
 use Rattle.hr_grammar.proofs.PartFirsts.{declarations_begin_lem, alternatives_begin_lem}
 use Rattle.hr_grammar_cases.specs.Readings.{take_all}
@@ -29,9 +28,8 @@ use Rattle.hr_grammar_cases.proofs.Stretches.{Has, is_empty_at, Text, lexemes, s
 use Rattle.hr_grammar_cases.proofs.Standing.{GoesAt}
 use Rattle.hr_grammar_cases.proofs.StandingPieces.{laids}
 use Rattle.hr_grammar_cases.proofs.StandingTrees.{laid_decl, laid_alt}
-use Rattle.hr_grammar_cases.proofs.StandingModules.{spans_are, stays_local}
+use Rattle.hr_grammar_cases.proofs.StandingModules.{spans_are}
 use Rattle.hr_grammar_cases.proofs.EndingsAgree.{levels_end}
-use Rattle.hr_grammar_cases_laws.specs.Laws.{ModulesAreDerived, YieldedIsDerived}
 use Rattle.hr_grammar_cases_laws.proofs.RetakenLeaves.{levels_retake, header_retakes}
 use Rattle.hr_grammar_cases_laws.proofs.Regaining.{items_behind, Given, through, the_first}
 use Rattle.hr_grammar_cases_laws.proofs.RegainingPieces.{PartsRegain, EndsAlike, PiecesFit}
@@ -68,9 +66,7 @@ alternative_parts text levels each = record {
 }
 
 locals_alike : (levels : ℕ) → EndsAlike laid_decl (decl_parts (derivations levels)) (FitsLocal (nodes levels))
-locals_alike levels n place next decl ending ts us fit r =
-    let same = stays_local next (subst (λ q. comes_behind q next ≡ true) fit.0 fit.1.0) in
-    (levels_end levels).decl n decl ending ts us (subst (λ q. (derivations levels).decl n q decl ending ts us) same r.1)
+locals_alike levels n place next decl ending ts us fit r = ((levels_end levels).decl n next decl ending ts us r.1).ends
 
 alternatives_alike : (levels : ℕ) → EndsAlike laid_alt (alt_parts (derivations levels)) (FitsAlternative (nodes levels))
 alternatives_alike levels n place next alt ending ts us fit r = ((levels_end levels).alt n alt ending ts us r.1).ends
@@ -157,7 +153,7 @@ none_seen : (empty : Bool) (ts : List Placed) → items_left ts ≡ [] → mark_
 none_seen empty [] e = refl
 none_seen empty (next ∷ ts) e = let no : ⊥ = cc in elim no [ ]
 
-derived : (levels : ℕ) (tree : Module) → IsModule levels tree → Offside tree → Derives levels tree (module_items tree)
+pub derived : (levels : ℕ) (tree : Module) → IsModule levels tree → Offside tree → Derives levels tree (module_items tree)
 derived zero tree is stands = elim is.1 [ ]
 derived (suc levels) tree is stands =
     let items = module_items tree in
@@ -196,9 +192,3 @@ derived (suc levels) tree is stands =
   where
     none_before : (k : ℕ) → k ≡ 0 + k
     none_before k = omega arith
-
-pub modules_are_derived_lem : ModulesAreDerived
-modules_are_derived_lem = derived
-
-pub yielded_is_derived_lem : YieldedIsDerived
-yielded_is_derived_lem tree items y stands = subst (λ (l : Items). Derives nesting_limit tree l.list) y.items_are (derived nesting_limit tree y.grammar stands)

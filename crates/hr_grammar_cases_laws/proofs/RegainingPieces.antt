@@ -12,7 +12,7 @@ use Rattle.hr_rules.specs.Roles.{role_of}
 use Rattle.hr_tree.specs.declared.lists.Piece.{Piece}
 use Rattle.hr_tree.specs.Lists.{piece_items}
 use Rattle.hr_grammar.specs.Words.{IsSemicolon}
-use Rattle.hr_grammar.specs.Blocks.{AreApart}
+use Rattle.hr_grammar.specs.Blocks.{PartsAreSeparated}
 use Rattle.hr_grammar.specs.Nodes.{DeclPlace}
 use Rattle.hr_grammar.specs.Spans.{Span, Stretch, stretch_length, Laid}
 use Rattle.hr_grammar.specs.Offside.{IsAtMargin, PartsBegin, begins, placed_among}
@@ -293,17 +293,17 @@ free_part : {T : Type 0} (begins : Bool) (part : T) (pieces : List (Piece T)) �
 free_part true part pieces f = refl
 free_part false part pieces f = elim f [ ]
 
-apart_behind : {T : Type 0} (part : T) (pieces : List (Piece T)) → AreApart (Piece.Part part ∷ pieces) → Free false pieces × AreApart pieces
+apart_behind : {T : Type 0} (part : T) (pieces : List (Piece T)) → PartsAreSeparated (Piece.Part part ∷ pieces) → Free false pieces × PartsAreSeparated pieces
 apart_behind part [] a = (tt, tt)
 apart_behind part (Piece.Semicolon item ∷ pieces) a = (tt, a)
 apart_behind part (Piece.Part next ∷ pieces) a = elim a [ ]
 
-apart_semicolon : {T : Type 0} (item : Item) (pieces : List (Piece T)) → AreApart (Piece.Semicolon item ∷ pieces) → AreApart pieces
+apart_semicolon : {T : Type 0} (item : Item) (pieces : List (Piece T)) → PartsAreSeparated (Piece.Semicolon item ∷ pieces) → PartsAreSeparated pieces
 apart_semicolon item [] a = tt
 apart_semicolon item (next ∷ pieces) a = a
 
 pub braced_regain : {T : Type 0} {text : Text} {of : T → Laid} {items_of : T → List Item} {parts : Parts T} {Fits : DeclPlace → DeclPlace → T → Type 0} → PartsRegain text of items_of parts Fits
-    → (place : DeclPlace) (begins : Bool) (pieces : List (Piece T)) → PiecesFit Fits place pieces → AreApart pieces → Free begins pieces
+    → (place : DeclPlace) (begins : Bool) (pieces : List (Piece T)) → PiecesFit Fits place pieces → PartsAreSeparated pieces → Free begins pieces
     → Regains text 0 false (pieces_laid of pieces) (flat_map (piece_items items_of) pieces) (braced_reading parts place begins pieces)
 braced_regain p place begins [] fit apart free = nothing_regains
 braced_regain p place begins (Piece.Semicolon item ∷ pieces) fit apart free =

@@ -23,7 +23,7 @@ use Rattle.hr_tree.specs.Yields.{pat_items, exp_items, decl_items, alt_items}
 use Rattle.hr_grammar.specs.Words.{IsText}
 use Rattle.hr_grammar.specs.Spelled.{IsOperator, IsVariableOperator, IsConstructorOperator}
 use Rattle.hr_grammar.specs.Separated.{There, AreSeparated}
-use Rattle.hr_grammar.specs.Nodes.{Nodes, PatPlace, ExpPlace, DeclPlace}
+use Rattle.hr_grammar.specs.Nodes.{Nodes, Colons, PatPlace, ExpPlace, DeclPlace}
 use Rattle.hr_grammar.specs.Firsts.{Begins, begins_pattern, begins_operand, opens_expression, BeginsExpression, opens_part}
 use Rattle.hr_grammar.specs.Spans.{Laid, row, block_laid}
 use Rattle.hr_grammar_cases.specs.Readings.{Reading, one, take_all, in_turn, separated, inside}
@@ -128,8 +128,8 @@ operator_begun operator (inr is) = constructor_operator_begun operator is
 -- ---- the trees of the grammar on the level below are read where they stand
 pub record AllRegain (text : Text) (below : Derivations) (allowed : Nodes) : Type 0 where
   pub pat_begins : (place : PatPlace) (pat : Pat) → allowed.pat place pat → Begun (pat_items pat)
-  pub exp_begins : (free : Bool) (place : ExpPlace) (exp : Exp) → allowed.exp free place exp → Begun (exp_items exp)
-  pub exp : (n : ℕ) (free : Bool) (place : ExpPlace) (exp : Exp) → allowed.exp free place exp → Regains text n false (laid_exp exp) (exp_items exp) (inside (below.exp n free place exp))
+  pub exp_begins : (free : Colons) (place : ExpPlace) (exp : Exp) → allowed.exp free place exp → Begun (exp_items exp)
+  pub exp : (n : ℕ) (free : Colons) (place : ExpPlace) (exp : Exp) → allowed.exp free place exp → Regains text n false (laid_exp exp) (exp_items exp) (inside (below.exp n free place exp))
   pub decl : (n : ℕ) (place : DeclPlace) (decl : Decl) → allowed.decl place decl → Regains text n false (laid_decl decl) (decl_items decl) (inside (below.decl n place decl))
   pub alt : (n : ℕ) (alt : Alt) → allowed.alt alt → Regains text n false (laid_alt alt) (alt_items alt) (inside (below.alt n alt))
   pub declarations : (m : ℕ) (block : Block Decl) → allowed.declarations DeclPlace.Local block

@@ -4,4 +4,4 @@
 
 mod laws;
 
-pub use laws::{modules_are_derived, relation_is_promise, yielded_is_derived};
+pub use laws::relation_is_promise;

@@ -5,7 +5,4 @@ pub mod PartStretches
 pub mod Modules
 pub mod Lasts
 pub mod PartLasts
-pub mod Bodies
-pub mod FirstBlocks
-pub mod NoTrees
-pub mod LastsPossible
+pub mod Patterns

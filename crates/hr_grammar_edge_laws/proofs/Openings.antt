@@ -15,7 +15,7 @@ use Rattle.hr_tree.specs.Names.{maybe_item}
 use Rattle.hr_tree.specs.Lists.{listed_items, piece_items, block_items, opening_items, closing_items}
 use Rattle.hr_grammar.specs.Separated.{AreSeparated}
 use Rattle.hr_grammar.specs.Blocks.{IsPiece, AreBraced}
-use Rattle.hr_grammar.specs.Spans.{Laid, Span, bare, one, row, ending_as, ◌▷◌, listed_laid, piece_laid, column_inside, block_laid}
+use Rattle.hr_grammar.specs.Spans.{Laid, Span, blockless, one, row, ending_as, ◌▷◌, listed_laid, piece_laid, column_inside, block_laid}
 use Rattle.hr_grammar.proofs.walk.Lists.{absent, there}
 use Rattle.hr_grammar_edge_laws.specs.Openings.{is_opening, behind_openings, IsPlain, ArePlain, starts_of, IsLaidBy}
 use Rattle.hr_grammar_edge_laws.proofs.Plain.{special, plain_patterns}
@@ -47,7 +47,7 @@ pub same : {items others : List Item} {laid other : Laid} → items ≡ others �
 same {items} {others} {laid} {other} e f is = subst (λ l. IsLaidBy items l) (sym f) (subst (λ i. IsLaidBy i other) (sym e) is)
 
 -- items without an opening word
-pub plain : (items : List Item) → ArePlain items → IsLaidBy items (bare items)
+pub plain : (items : List Item) → ArePlain items → IsLaidBy items (blockless items)
 plain items p = record { extent = refl; starts = λ m n. sym (no_numbers n items p) }
 
 pub join : {xs ys : List Item} {first second : Laid} → IsLaidBy xs first → IsLaidBy ys second → IsLaidBy (xs ++ ys) (first ▷ second)

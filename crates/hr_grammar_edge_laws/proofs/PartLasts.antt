@@ -29,7 +29,7 @@ use Rattle.hr_tree.specs.Lists.{listed_items, operand_items, block_items, guarde
 use Rattle.hr_tree.specs.Yields.{ty_items, pat_items, type_head_items, construction_items, left_side_items, imported_items, name_list_items, maybe_alias, maybe_import_names, import_items, exp_items, decl_items, qualifier_items, alt_items}
 use Rattle.hr_grammar.specs.Words.{IsOf, IsBar, IsComma, IsEquals, IsArrow}
 use Rattle.hr_grammar.specs.Spelled.{IsNamedVariable, IsOwnConstructor, IsOwnOperator}
-use Rattle.hr_grammar.specs.Nodes.{TyPlace, ExpPlace, DeclPlace}
+use Rattle.hr_grammar.specs.Nodes.{Colons, TyPlace, ExpPlace, DeclPlace}
 use Rattle.hr_grammar.specs.Expressions.{ExpProduction, AreExpOperands, last_operand, takes_operand, takes_open, takes_infix, takes_annotation}
 use Rattle.hr_grammar.specs.Declarations.{DeclProduction, IsAltOver, IsConstructionOver, IsNewConstructionOver, IsGuardedOver, IsBodyOver, IsWhereOver, takes_import, takes_top, takes_local}
 use Rattle.hr_grammar.specs.Imports.{IsNameList, IsImported, IsAlias, AreImportNames, IsImport}
@@ -88,23 +88,23 @@ named_variable_ends (Named.Symbol left symbol right) is = right_paren ends_atom 
 
 -- all that stands on a level. A block ends with the word before it, if it has no lexeme
 record Below (levels : ℕ) : Type 0 where
-  exp : (free : Bool) (place : ExpPlace) (part : Exp) → (nodes levels).exp free place part → Ends (ends_expression place) (exp_items part)
+  exp : (free : Colons) (place : ExpPlace) (part : Exp) → (nodes levels).exp free place part → Ends (ends_expression place) (exp_items part)
   decl : (place : DeclPlace) (part : Decl) → (nodes levels).decl place part → Ends (ends_declaration place) (decl_items part)
   alt : (part : Alt) → (nodes levels).alt part → Ends ends_part (alt_items part)
   locals : (word : Item) → ends_part word.lexeme.class word.lexeme.text ≡ true → (block : Block Decl) → (nodes levels).declarations DeclPlace.Local block → Ends ends_part (word ∷ block_items decl_items block)
   alternatives : (word : Item) → ends_part word.lexeme.class word.lexeme.text ≡ true → (block : Block Alt) → (nodes levels).alternatives block → Ends ends_part (word ∷ block_items alt_items block)
 
-exp_part : (levels : ℕ) → Below levels → (free : Bool) (place : ExpPlace) (part : Exp) → (nodes levels).exp free place part → Ends ends_part (exp_items part)
+exp_part : (levels : ℕ) → Below levels → (free : Colons) (place : ExpPlace) (part : Exp) → (nodes levels).exp free place part → Ends ends_part (exp_items part)
 exp_part levels below free place part is = any_part place (exp_items part) (below.exp free place part is)
 
-operands : (levels : ℕ) → Below levels → (free : Bool) (last : ExpPlace) (list : List (Operand Exp)) → AreExpOperands (nodes levels) free last list → Ends ends_part (flat_map (operand_items exp_items) list)
+operands : (levels : ℕ) → Below levels → (free : Colons) (last : ExpPlace) (list : List (Operand Exp)) → AreExpOperands (nodes levels) free last list → Ends ends_part (flat_map (operand_items exp_items) list)
 operands levels below free last [] is = elim is [ ]
 operands levels below free last (operand ∷ []) is =
     ends_before_nothing ends_part (operand_items exp_items operand) (last_operand_ends ends_part exp_items operand is.2 (exp_part levels below free last operand.part is.1))
 operands levels below free last (operand ∷ (next ∷ rest)) is =
     ends_after ends_part (operand_items exp_items operand) (flat_map (operand_items exp_items) (next ∷ rest)) (operands levels below free last (next ∷ rest) is.3)
 
-exp_level : (levels : ℕ) → Below levels → (free : Bool) (place : ExpPlace) (layer : Exp-F Decl Exp Qualifier Alt) → ExpProduction (nodes levels) free place layer → Ends (ends_expression place) (exp_joined layer)
+exp_level : (levels : ℕ) → Below levels → (free : Colons) (place : ExpPlace) (layer : Exp-F Decl Exp Qualifier Alt) → ExpProduction (nodes levels) free place layer → Ends (ends_expression place) (exp_joined layer)
 exp_level levels below free place (Exp-F.Variable named) is = atom_at place (variable_items named) (named_variable_ends named is)
 exp_level levels below free place (Exp-F.Constructor named) is = atom_at place (constructor_items named) (constructor_ends ends_atom atoms_close named is)
 exp_level levels below free place (Exp-F.Literal item) is = atom_at place (item ∷ []) (literal_ends ends_atom (λ text. (refl, refl, refl)) item is)
@@ -150,10 +150,10 @@ exp_level levels below free place (Exp-F.Fields part left fields right) is = eli
 guarded_ends : (levels : ℕ) → Below levels → (IsMark : Item → Type 0) → (guarded : Guarded Exp) → IsGuardedOver (nodes levels) IsMark guarded → Ends ends_part (guarded_items exp_items guarded)
 guarded_ends levels below IsMark guarded is =
     ends_behind ends_part guarded.bar (exp_items guarded.guard ++ guarded.mark ∷ exp_items guarded.body) (ends_after ends_part (exp_items guarded.guard) (guarded.mark ∷ exp_items guarded.body)
-    (ends_behind ends_part guarded.mark (exp_items guarded.body) (exp_part levels below true ExpPlace.Whole guarded.body is.1.1.1)))
+    (ends_behind ends_part guarded.mark (exp_items guarded.body) (exp_part levels below Colons.Allowed ExpPlace.Whole guarded.body is.1.1.1)))
 
 body_ends : (levels : ℕ) → Below levels → (IsMark : Item → Type 0) → (body : Body Exp) → IsBodyOver (nodes levels) IsMark body → Ends ends_part (body_items exp_items body)
-body_ends levels below IsMark (Body.Plain mark body) is = ends_behind ends_part mark (exp_items body) (exp_part levels below true ExpPlace.Whole body is.1)
+body_ends levels below IsMark (Body.Plain mark body) is = ends_behind ends_part mark (exp_items body) (exp_part levels below Colons.Allowed ExpPlace.Whole body is.1)
 body_ends levels below IsMark (Body.Guarded list) is = all_end ends_part (guarded_items exp_items) (IsGuardedOver (nodes levels) IsMark) (guarded_ends levels below IsMark) list is.0 is.1
 
 right_side_ends : (levels : ℕ) → Below levels → (IsMark : Item → Type 0) → (body : Body Exp) → IsBodyOver (nodes levels) IsMark body → (locals : Option (Where Decl)) → IsWhereOver (nodes levels) locals

@@ -1,6 +1,6 @@
 -- The blocks of declarations and alternatives begin behind their opening words, and so those of all trees: one
 -- recursion on the levels.
-use Rattle.std.proofs.Common.{◌≡◌, ℕ, zero, suc, true, false, List, [], ◌∷◌, ◌++◌, map, Option, Some, None, refl, sym, ap, subst}
+use Rattle.std.proofs.Common.{◌≡◌, ℕ, zero, suc, List, [], ◌∷◌, ◌++◌, map, Option, Some, None, refl, sym, ap, subst}
 use Rattle.std.specs.List.{AllByRecursion, flat_map}
 use Rattle.std.proofs.lemmas.List.{append-nil}
 use lib.Chars.{codes}
@@ -27,11 +27,11 @@ use Rattle.hr_tree.specs.Yields.{ty_items, pat_items, type_head_items, construct
 use Rattle.hr_tree.proofs.ExpressionYields.{alt_whole}
 use Rattle.hr_grammar.specs.Words.{IsComma, IsEquals, IsArrow}
 use Rattle.hr_grammar.specs.Spelled.{IsVariable, IsOwnOperator}
-use Rattle.hr_grammar.specs.Nodes.{TyPlace, PatPlace, ExpPlace, DeclPlace}
+use Rattle.hr_grammar.specs.Nodes.{Colons, TyPlace, PatPlace, ExpPlace, DeclPlace}
 use Rattle.hr_grammar.specs.Declarations.{DeclProduction, IsAltOver, IsGuardedOver, IsBodyOver, IsWhereOver, IsDigit}
 use Rattle.hr_grammar.specs.Blocks.{IsPiece}
 use Rattle.hr_grammar.specs.Yields.{nodes, AreDeclarationsOver, AreAlternativesOver}
-use Rattle.hr_grammar.specs.Spans.{Laid, row, piece_laid, guarded_laid, body_laid, right_side_laid, block_laid, exp_laid, decl_laid, qualifier_laid, alt_laid, laid_of}
+use Rattle.hr_grammar.specs.Spans.{Laid, row, piece_laid, guarded_laid, body_laid, right_side_laid, block_laid, exp_laid, decl_laid, qualifier_laid, alt_laid, laid_of, top_ending}
 use Rattle.hr_grammar.proofs.Joins.{decl_layers}
 use Rattle.hr_grammar.proofs.walk.Lists.{maybe, separated}
 use Rattle.hr_grammar.proofs.walk.Names.{of_class, comma, variable, own_operator}
@@ -51,8 +51,8 @@ turned_guarded g = record { bar = g.bar; guard = exp_stretch g.guard; mark = g.m
 guarded_by : (levels : ℕ) → Below levels → (IsMark : Item → Type 0) → ((item : Item) → IsMark item → IsPlain item)
     → (guarded : Guarded Exp) → IsGuardedOver (nodes levels) IsMark guarded → IsLaidBy (guarded_items exp_items guarded) (guarded_laid (turned_guarded guarded))
 guarded_by levels below IsMark sign guarded is =
-    join (token (codes "|") Class.ReservedOp guarded.bar is.0 refl) (join (below.exp false ExpPlace.Sequence guarded.guard is.1.0)
-    (join (plain (guarded.mark ∷ []) (sign guarded.mark is.1.1.0, tt)) (below.exp true ExpPlace.Whole guarded.body is.1.1.1)))
+    join (token (codes "|") Class.ReservedOp guarded.bar is.0 refl) (join (below.exp Colons.Barred ExpPlace.Sequence guarded.guard is.1.0)
+    (join (plain (guarded.mark ∷ []) (sign guarded.mark is.1.1.0, tt)) (below.exp Colons.Allowed ExpPlace.Whole guarded.body is.1.1.1)))
 
 guards_by : (levels : ℕ) → Below levels → (IsMark : Item → Type 0) → ((item : Item) → IsMark item → IsPlain item)
     → (list : List (Guarded Exp)) → AllByRecursion (IsGuardedOver (nodes levels) IsMark) list → IsLaidBy (flat_map (guarded_items exp_items) list) (row (map guarded_laid (map turned_guarded list)))
@@ -65,7 +65,7 @@ turned_body (Body.Guarded list) = Body.Guarded (map turned_guarded list)
 
 body_by : (levels : ℕ) → Below levels → (IsMark : Item → Type 0) → ((item : Item) → IsMark item → IsPlain item)
     → (body : Body Exp) → IsBodyOver (nodes levels) IsMark body → IsLaidBy (body_items exp_items body) (body_laid (turned_body body))
-body_by levels below IsMark sign (Body.Plain mark body) is = ends_as _ (join (plain (mark ∷ []) (sign mark is.0, tt)) (below.exp true ExpPlace.Whole body is.1))
+body_by levels below IsMark sign (Body.Plain mark body) is = ends_as _ (join (plain (mark ∷ []) (sign mark is.0, tt)) (below.exp Colons.Allowed ExpPlace.Whole body is.1))
 body_by levels below IsMark sign (Body.Guarded list) is = ends_as _ (guards_by levels below IsMark sign list is.1)
 
 abbrev turned_where : (Piece Decl → Piece Laid) → Where Decl → Where Laid
@@ -90,16 +90,16 @@ arrow_plain item is = of_text Class.ReservedOp (codes "->") item is refl
 decl_level : (levels : ℕ) → Below levels → (place : DeclPlace) (layer : Decl-F Decl Exp Qualifier Alt) → DeclProduction (nodes levels) place layer → IsLaidBy (decl_items (roll-Decl layer)) (laid_of (roll-Decl layer))
 decl_level levels below place (Decl-F.Import import) is =
     same (decl_layers (Decl-F.Import import)) (fold-roll-Decl Laid Laid Laid Laid decl_laid exp_laid qualifier_laid alt_laid (Decl-F.Import import))
-    (ends_as Ending.Nothing (plain (import_items import) (import_keeps plain_patterns import is.1)))
+    (ends_as top_ending (plain (import_items import) (import_keeps plain_patterns import is.1)))
 decl_level levels below place (Decl-F.Synonym word head equals ty) is =
     same (decl_layers (Decl-F.Synonym word head equals ty)) (fold-roll-Decl Laid Laid Laid Laid decl_laid exp_laid qualifier_laid alt_laid (Decl-F.Synonym word head equals ty))
-    (ends_as Ending.Nothing (join (token (codes "type") Class.ReservedId word is.1 refl) (join (plain (type_head_items head) (type_head_keeps plain_patterns head is.2)) (join (token (codes "=") Class.ReservedOp equals is.3 refl) (plain (ty_items ty) (types_keep plain_types levels TyPlace.Whole ty is.4))))))
+    (ends_as top_ending (join (token (codes "type") Class.ReservedId word is.1 refl) (join (plain (type_head_items head) (type_head_keeps plain_patterns head is.2)) (join (token (codes "=") Class.ReservedOp equals is.3 refl) (plain (ty_items ty) (types_keep plain_types levels TyPlace.Whole ty is.4))))))
 decl_level levels below place (Decl-F.Data word head equals constructions) is =
     same (decl_layers (Decl-F.Data word head equals constructions)) (fold-roll-Decl Laid Laid Laid Laid decl_laid exp_laid qualifier_laid alt_laid (Decl-F.Data word head equals constructions))
-    (ends_as Ending.Nothing (join (token (codes "data") Class.ReservedId word is.1 refl) (join (plain (type_head_items head) (type_head_keeps plain_patterns head is.2)) (join (token (codes "=") Class.ReservedOp equals is.3 refl) (plain (flat_map (listed_items construction_items) constructions) (constructions_keep plain_types levels constructions is.4))))))
+    (ends_as top_ending (join (token (codes "data") Class.ReservedId word is.1 refl) (join (plain (type_head_items head) (type_head_keeps plain_patterns head is.2)) (join (token (codes "=") Class.ReservedOp equals is.3 refl) (plain (flat_map (listed_items construction_items) constructions) (constructions_keep plain_types levels constructions is.4))))))
 decl_level levels below place (Decl-F.Newtype word head equals construction) is =
     same (decl_layers (Decl-F.Newtype word head equals construction)) (fold-roll-Decl Laid Laid Laid Laid decl_laid exp_laid qualifier_laid alt_laid (Decl-F.Newtype word head equals construction))
-    (ends_as Ending.Nothing (join (token (codes "newtype") Class.ReservedId word is.1 refl) (join (plain (type_head_items head) (type_head_keeps plain_patterns head is.2)) (join (token (codes "=") Class.ReservedOp equals is.3 refl) (plain (construction_items construction) (new_construction_keeps plain_types levels construction is.4))))))
+    (ends_as top_ending (join (token (codes "newtype") Class.ReservedId word is.1 refl) (join (plain (type_head_items head) (type_head_keeps plain_patterns head is.2)) (join (token (codes "=") Class.ReservedOp equals is.3 refl) (plain (construction_items construction) (new_construction_keeps plain_types levels construction is.4))))))
 decl_level levels below place (Decl-F.Signature names colons ty) is =
     same (decl_layers (Decl-F.Signature names colons ty)) (fold-roll-Decl Laid Laid Laid Laid decl_laid exp_laid qualifier_laid alt_laid (Decl-F.Signature names colons ty))
     (ends_as Ending.Signature (join (plain (flat_map (listed_items variable_items) names) (separated plain_patterns.joins variable_items IsComma IsVariable (comma plain_patterns) (variable plain_patterns) names is.1)) (join (token (codes "::") Class.ReservedOp colons is.3 refl) (plain (ty_items ty) (types_keep plain_types levels TyPlace.Whole ty is.4)))))

@@ -1,4 +1,4 @@
 pub mod Lasts
 pub mod Laws
-pub mod NoTrees
 pub mod Openings
+pub mod Patterns

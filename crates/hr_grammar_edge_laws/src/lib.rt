@@ -5,7 +5,6 @@
 mod laws;
 
 pub use laws::{
-    alternatives_end, blocks_begin, bodies_alone, declarations_end, expressions_end,
-    first_blocks_agree, first_blocks_of_parts_agree, lasts_are_possible, patterns_end,
-    then_at_margin_has_no_tree, types_end,
+    alternatives_end, blocks_begin, declarations_end, expressions_end, patterns_end,
+    patterns_have_no_bar, types_end,
 };

@@ -29,7 +29,7 @@ use Rattle.hr_tree.specs.declared.expressions.Qualifier.{Qualifier}
 use Rattle.hr_tree.specs.declared.expressions.Alt.{Alt, out-Alt}
 use Rattle.hr_tree.specs.declared.modules.Import.{Import}
 use Rattle.hr_tree.specs.Names.{constructor_items, operator_items}
-use Rattle.hr_grammar.specs.Nodes.{TyPlace, PatPlace, ExpPlace, DeclPlace}
+use Rattle.hr_grammar.specs.Nodes.{Colons, TyPlace, PatPlace, ExpPlace, DeclPlace}
 use Rattle.hr_grammar.specs.Declarations.{fixity_words, takes_import, takes_top, takes_local}
 use Rattle.hr_grammar.specs.Spans.{part_ending}
 use Rattle.hr_grammar.specs.Spelled.{IsVariable, IsOwnConstructor, IsOwnConstructorOperator, IsOwnOperator}
@@ -168,13 +168,13 @@ guarded_match : (b : Level) (n : ℕ) {IsMark : Item → Type 0} {is_mark : Item
 guarded_match b n {IsMark} {is_mark} t =
     made_matches guarded_of (λ (p : Guarded Exp × Ending). (p.0.bar, (p.0.guard, (p.0.mark, (p.0.body, p.1))))) (λ p. refl)
     (then_matches (one_matches n (tests_reserved (codes "|")))
-    (then_matches (inside_matches (b.each.exp n false ExpPlace.Sequence)) (then_matches (one_matches n t) (b.each.exp n true ExpPlace.Whole))))
+    (then_matches (inside_matches (b.each.exp n Colons.Barred ExpPlace.Sequence)) (then_matches (one_matches n t) (b.each.exp n Colons.Allowed ExpPlace.Whole))))
 
 guarded_takes : (b : Level) (n : ℕ) (IsMark : Item → Type 0) (guarded : Guarded Exp) (ending : Ending) (ts us : List Placed) → guarded_reading b.read n IsMark guarded ending ts us → length us < length ts
 guarded_takes b n IsMark guarded ending =
     (first_takes (one_takes n IsBar guarded.bar)
-    (both_stay (some (record { fewer = λ ts us r. b.less.exp n false ExpPlace.Sequence (guarded.guard, r.0) ts us r.1 }))
-    (both_stay (some (one_takes n IsMark guarded.mark)) (some (takes_by (λ (p : Exp × Ending). b.read.exp n true ExpPlace.Whole p.0 p.1) (b.less.exp n true ExpPlace.Whole) (guarded.body, ending)))))).fewer
+    (both_stay (some (record { fewer = λ ts us r. b.less.exp n Colons.Barred ExpPlace.Sequence (guarded.guard, r.0) ts us r.1 }))
+    (both_stay (some (one_takes n IsMark guarded.mark)) (some (takes_by (λ (p : Exp × Ending). b.read.exp n Colons.Allowed ExpPlace.Whole p.0 p.1) (b.less.exp n Colons.Allowed ExpPlace.Whole) (guarded.body, ending)))))).fewer
 
 guards_so : (b : Level) (n : ℕ) (IsMark : Item → Type 0) (x : Guarded Exp) (rest : List (Guarded Exp)) (ending : Ending) (ts us : List Placed)
     → (reading.inside (guarded_reading b.read n IsMark x) ▷ guards_reading b.read n IsMark rest ending) ts us → guards_reading b.read n IsMark (x ∷ rest) ending ts us
@@ -228,8 +228,8 @@ abbrev turned : Bool → Body Exp × Ending → Body Exp × Ending
 turned guarded p = (p.0, part_ending guarded p.1)
 
 plain_match : (b : Level) (n : ℕ) {IsMark : Item → Type 0} {is_mark : Item → Bool} → Tests IsMark is_mark
-    → Matches (λ (p : Item × (Exp × Ending)). plain_reading b.read n IsMark p.0 p.1.0 p.1.1) (one n is_mark ▶ b.found.exp n true ExpPlace.Whole)
-plain_match b n t = then_matches (one_matches n t) (b.each.exp n true ExpPlace.Whole)
+    → Matches (λ (p : Item × (Exp × Ending)). plain_reading b.read n IsMark p.0 p.1.0 p.1.1) (one n is_mark ▶ b.found.exp n Colons.Allowed ExpPlace.Whole)
+plain_match b n t = then_matches (one_matches n t) (b.each.exp n Colons.Allowed ExpPlace.Whole)
 
 bodies_sound : (b : Level) (n : ℕ) {IsMark : Item → Type 0} {is_mark : Item → Bool} → Tests IsMark is_mark → Sound (BodyReading b n IsMark) (bodies b.found n is_mark)
 bodies_sound b n {IsMark} {is_mark} t =
@@ -243,8 +243,8 @@ bodies_complete : (b : Level) (n : ℕ) {IsMark : Item → Type 0} {is_mark : It
 bodies_complete b n {IsMark} {is_mark} t (Body.Plain mark body) ending ts us r =
     subst (λ e. Among {T = Way (Body Exp × Ending)} ((Body.Plain mark body, e), us) (bodies b.found n is_mark ts)) (sym r.1)
     (chosen (body_ways b.found n is_mark) 0 _ ts us
-    (made_found (turned false) (made_by plain_of (one n is_mark ▶ b.found.exp n true ExpPlace.Whole)) (Body.Plain mark body, r.0) ts us
-    (made_found plain_of (one n is_mark ▶ b.found.exp n true ExpPlace.Whole) (mark, (body, r.0)) ts us ((plain_match b n t).complete (mark, (body, r.0)) ts us r.2))))
+    (made_found (turned false) (made_by plain_of (one n is_mark ▶ b.found.exp n Colons.Allowed ExpPlace.Whole)) (Body.Plain mark body, r.0) ts us
+    (made_found plain_of (one n is_mark ▶ b.found.exp n Colons.Allowed ExpPlace.Whole) (mark, (body, r.0)) ts us ((plain_match b n t).complete (mark, (body, r.0)) ts us r.2))))
 bodies_complete b n {IsMark} {is_mark} t (Body.Guarded list) ending ts us r =
     subst (λ e. Among {T = Way (Body Exp × Ending)} ((Body.Guarded list, e), us) (bodies b.found n is_mark ts)) (sym r.1)
     (chosen (body_ways b.found n is_mark) 1 _ ts us

@@ -218,7 +218,7 @@ found_are_derived_lem = record {
 pub found_are_read_lem : FoundAreRead
 found_are_read_lem items tree h =
     let r = found_reading nesting_limit items tree h in
-    let m = modules_yield_lem tree items.list r.1 in
+    let m = modules_yield_lem.yields tree items.list r.1 in
     (subst (λ tail. Yields tree (record { list = items.list; tail = tail })) r.0 m.0, m.1)
 
 pub only_one : {T : Type 0} (x : T) (xs : List T) → length xs ≡ 1 → Among x xs → xs ≡ x ∷ []

@@ -5,7 +5,7 @@ use Rattle.hr_base.specs.declared.lexeme.Items.{Items}
 use Rattle.hr_tree.specs.declared.modules.Module.{Module}
 use Rattle.hr_grammar.specs.Yields.{nesting_limit}
 use Rattle.hr_grammar_cases.specs.Modules.{Derives}
-use Rattle.hr_grammar_cases_laws.proofs.RegainingModules.{yielded_is_derived_lem}
+use Rattle.hr_grammar_cases_laws.proofs.Agreeing.{yielded_is_derived_lem}
 use Rattle.hr_grammar_finder_laws.specs.Ways.{Among}
 use Rattle.hr_grammar_finder_laws.specs.Worked.{IsAlone, HasNoTree}
 use Rattle.hr_grammar_finder_laws.specs.Promise.{IsTreeOf, ReadAreFound, IsOnlyTree, HaveNoTree, WorkedTextsAreRead}
@@ -49,6 +49,7 @@ worked_texts_are_read_lem = let found = worked_texts_are_found_lem in record {
   case_in_case = only _ _ found.case_in_case.alone;
   where_in_let = only _ _ found.where_in_let.alone;
   closing = no_tree found.closing;
+  unclosed = no_tree found.unclosed;
   class_word = no_tree found.class_word;
   let_without_in = no_tree found.let_without_in;
   then_at_margin = no_tree found.then_at_margin;

@@ -12,7 +12,7 @@ use Rattle.hr_grammar_cases.specs.Modules.{Derives}
 use Rattle.hr_grammar_cases.specs.Worked.{annotated_in_let_items, section_of_lambda_items, case_in_if_items, sum_behind_case_items, defines_a}
 use Rattle.hr_grammar_cases.proofs.Worked.{worked_texts_lem}
 use Rattle.hr_grammar_finder_laws.specs.Modules.{trees_of}
-use Rattle.hr_grammar_finder_laws.specs.Worked.{IsAlone, HasOneTree, HasSomeTree, HasNoTree, case_in_tuple_items, case_in_comprehension_items, case_in_sequence_items, case_in_case_items, where_in_let_items, module_items, braced_items, closing_items, class_items, let_without_in_items, then_at_margin_items, twice_annotated_items, case_or_comprehension_items, WorkedTextsAreFound}
+use Rattle.hr_grammar_finder_laws.specs.Worked.{IsAlone, HasOneTree, HasSomeTree, HasNoTree, case_in_tuple_items, case_in_comprehension_items, case_in_sequence_items, case_in_case_items, where_in_let_items, module_items, braced_items, closing_items, unclosed_items, class_items, let_without_in_items, then_at_margin_items, twice_annotated_items, case_or_comprehension_items, WorkedTextsAreFound}
 use Rattle.hr_grammar_finder_laws.proofs.Modules.{found_are_derived_lem, derived_are_found_lem, only_one}
 use Rattle.hr_grammar_finder_laws.proofs.Rolled.{tuple_alone, comprehension_alone, sequence_alone, nested_alone, locals_alone}
 use Rattle.hr_grammar_finder_laws.specs.Ways.{Among}
@@ -68,6 +68,10 @@ closing : (tail : List ℕ) → trees_of nesting_limit (record { list = closing_
 unfolding can_follow role_of
 closing tail = refl
 
+unclosed : (tail : List ℕ) → trees_of nesting_limit (record { list = unclosed_items; tail = tail }) ≡ []
+unfolding can_follow role_of
+unclosed tail = refl
+
 class_word : (tail : List ℕ) → trees_of nesting_limit (record { list = class_items; tail = tail }) ≡ []
 unfolding can_follow role_of
 class_word tail = refl
@@ -102,6 +106,7 @@ worked_texts_are_found_lem = record {
   whole_module = whole;
   braced = braced;
   closing = no_tree _ closing_items refl closing;
+  unclosed = no_tree _ unclosed_items refl unclosed;
   class_word = no_tree _ class_items refl class_word;
   let_without_in = no_tree _ let_without_in_items refl let_without_in;
   then_at_margin = no_tree _ then_at_margin_items refl then_at_margin;

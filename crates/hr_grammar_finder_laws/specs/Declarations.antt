@@ -20,9 +20,9 @@ use Rattle.hr_tree.specs.declared.expressions.Decl.{Decl, roll-Decl}
 use Rattle.hr_tree.specs.declared.expressions.Decl.TheOpen.{Decl-F}
 use Rattle.hr_tree.specs.declared.expressions.Qualifier.{Qualifier}
 use Rattle.hr_tree.specs.declared.expressions.Alt.{Alt, roll-Alt}
-use Rattle.hr_grammar.specs.Nodes.{TyPlace, PatPlace, ExpPlace, DeclPlace}
+use Rattle.hr_grammar.specs.Nodes.{Colons, TyPlace, PatPlace, ExpPlace, DeclPlace}
 use Rattle.hr_grammar.specs.Declarations.{fixity_words, takes_import, takes_top, takes_local}
-use Rattle.hr_grammar.specs.Spans.{part_ending}
+use Rattle.hr_grammar.specs.Spans.{part_ending, top_ending}
 use Rattle.hr_grammar_finder_laws.specs.Ways.{Finder, any_of, none, ◌⊕◌, on, passing, made_by, ◌▶◌, one, maybe, in_turn, separated, inside, ends_as}
 use Rattle.hr_grammar_finder_laws.specs.Tests.{is_of, is_word, is_reserved, is_special, is_digit, has_one}
 use Rattle.hr_grammar_finder_laws.specs.Names.{variables, own_constructors, own_variable_operators, own_constructor_operators, own_operators}
@@ -85,7 +85,7 @@ guarded_of p = (record { bar = p.0; guard = p.1.0; mark = p.1.1.0; body = p.1.1.
 -- a guard is a sequence without `::` outside of brackets and blocks
 abbrev pub guarded : Finders → ℕ → (Item → Bool) → Finder (Guarded Exp × Ending)
 guarded below n is_mark =
-    made_by guarded_of (one n (is_reserved (codes "|")) ▶ inside (below.exp n false ExpPlace.Sequence) ▶ one n is_mark ▶ below.exp n true ExpPlace.Whole)
+    made_by guarded_of (one n (is_reserved (codes "|")) ▶ inside (below.exp n Colons.Barred ExpPlace.Sequence) ▶ one n is_mark ▶ below.exp n Colons.Allowed ExpPlace.Whole)
 
 abbrev pub last_guarded : Guarded Exp × Ending → List (Guarded Exp) × Ending
 last_guarded p = (p.0 ∷ [], p.1)
@@ -106,7 +106,7 @@ guards below n is_mark ts = guards_by below n is_mark (length ts) ts
 -- what stands behind `=` or `->`, or under guards
 abbrev pub body_ways : Finders → ℕ → (Item → Bool) → List (Finder (Body Exp × Ending))
 body_ways below n is_mark =
-    ends_as (part_ending false) (made_by (λ p. (Body.Plain p.0 p.1.0, p.1.1)) (one n is_mark ▶ below.exp n true ExpPlace.Whole))
+    ends_as (part_ending false) (made_by (λ p. (Body.Plain p.0 p.1.0, p.1.1)) (one n is_mark ▶ below.exp n Colons.Allowed ExpPlace.Whole))
     ∷ ends_as (part_ending true) (made_by (λ p. (Body.Guarded p.0, p.1)) (guards below n is_mark))
     ∷ []
 
@@ -134,12 +134,12 @@ right_sides below n is_mark = any_of (right_side_ways below n is_mark)
 
 abbrev pub decl_ways : Finders → ℕ → DeclPlace → List (Finder (Decl-F Decl Exp Qualifier Alt × Ending))
 decl_ways below n place =
-    on (takes_import place) (made_by (λ import. (Decl-F.Import import, Ending.WhereBlock)) (imports n))
-    ∷ on (takes_top place) (made_by (λ p. (Decl-F.Synonym p.0 p.1.0 p.1.1.0 p.1.1.1, Ending.WhereBlock))
+    on (takes_import place) (made_by (λ import. (Decl-F.Import import, top_ending)) (imports n))
+    ∷ on (takes_top place) (made_by (λ p. (Decl-F.Synonym p.0 p.1.0 p.1.1.0 p.1.1.1, top_ending))
     (one n (is_word (codes "type")) ▶ type_heads n ▶ one n (is_reserved (codes "=")) ▶ below.ty n TyPlace.Whole))
-    ∷ on (takes_top place) (made_by (λ p. (Decl-F.Data p.0 p.1.0 p.1.1.0 p.1.1.1, Ending.WhereBlock)) (passing (λ p. has_one p.1.1.1)
+    ∷ on (takes_top place) (made_by (λ p. (Decl-F.Data p.0 p.1.0 p.1.1.0 p.1.1.1, top_ending)) (passing (λ p. has_one p.1.1.1)
     (one n (is_word (codes "data")) ▶ type_heads n ▶ one n (is_reserved (codes "=")) ▶ separated (one n (is_reserved (codes "|"))) (constructions below n))))
-    ∷ on (takes_top place) (made_by (λ p. (Decl-F.Newtype p.0 p.1.0 p.1.1.0 p.1.1.1, Ending.WhereBlock))
+    ∷ on (takes_top place) (made_by (λ p. (Decl-F.Newtype p.0 p.1.0 p.1.1.0 p.1.1.1, top_ending))
     (one n (is_word (codes "newtype")) ▶ type_heads n ▶ one n (is_reserved (codes "=")) ▶ new_constructions below n))
     ∷ on (takes_local place) (made_by (λ p. (Decl-F.Signature p.0 p.1.0 p.1.1, Ending.Signature)) (passing (λ p. has_one p.0)
     (separated (one n (is_special (codes ","))) (variables n) ▶ one n (is_reserved (codes "::")) ▶ below.ty n TyPlace.Whole)))

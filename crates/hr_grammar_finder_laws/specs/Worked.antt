@@ -99,6 +99,11 @@ where_in_let_items =
 abbrev pub closing_items : List Item
 closing_items = item Class.VarId [] (codes "f") ∷ mark (codes "=") ∷ bracket (codes ")") ∷ []
 
+-- `main s = (s`, and `x = 1` on the line below
+abbrev pub unclosed_items : List Item
+unclosed_items =
+    item Class.VarId [] (codes "main") ∷ name (codes "s") ∷ mark (codes "=") ∷ bracket (codes "(") ∷ item Class.VarId [] (codes "s") ∷ line Class.VarId (codes "x") ∷ mark (codes "=") ∷ number (codes "1") ∷ []
+
 -- `f = class`
 abbrev pub class_items : List Item
 class_items = item Class.VarId [] (codes "f") ∷ mark (codes "=") ∷ word (codes "class") ∷ []
@@ -136,6 +141,7 @@ pub record WorkedTextsAreFound : Type 0 where
   pub whole_module : HasSomeTree (codes "module M (f,) where\nimport N ()\ndata T = C T | D\nf :: T -> T\nf x | y = z\n where y = x") module_items
   pub braced : HasSomeTree (codes "{; a = b;; c + d = - 1; }") braced_items
   pub closing : HasNoTree (codes "f = )") closing_items
+  pub unclosed : HasNoTree (codes "main s = (s\nx = 1") unclosed_items
   pub class_word : HasNoTree (codes "f = class") class_items
   pub let_without_in : HasNoTree (codes "main s = let x = 1") let_without_in_items
   pub then_at_margin : HasNoTree (codes "a = if b\nthen c else d") then_at_margin_items

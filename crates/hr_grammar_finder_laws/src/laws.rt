@@ -36,7 +36,7 @@ pub fn read_are_found()
     ensures { ReadAreFound }
 {}
 
-/// Nine worked texts have their tree and no other one, and six texts have none.
+/// Nine worked texts have their tree and no other one, and seven texts have none.
 pub fn worked_texts_are_read()
     ensures { WorkedTextsAreRead }
 {}

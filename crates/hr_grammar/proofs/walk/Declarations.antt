@@ -1,6 +1,6 @@
 -- What goes over from the parts of trees to the whole is true of each declaration, alternative and block, where
 -- it is of all that stands on the level below; so of all that stands on any level.
-use Rattle.std.proofs.Common.{ℕ, zero, suc, true, false, List, [], ◌∷◌, ◌++◌, Option, Some, None, refl, sym, subst}
+use Rattle.std.proofs.Common.{ℕ, zero, suc, List, [], ◌∷◌, ◌++◌, Option, Some, None, refl, sym, subst}
 use Rattle.std.specs.List.{AllByRecursion, flat_map}
 use lib.Chars.{codes}
 use Rattle.hr_base.specs.declared.lexeme.Class.{Class}
@@ -21,7 +21,7 @@ use Rattle.hr_tree.specs.Lists.{listed_items, piece_items, block_items, guarded_
 use Rattle.hr_tree.specs.Yields.{ty_items, pat_items, type_head_items, construction_items, left_side_items, exp_items, decl_items, alt_items}
 use Rattle.hr_grammar.specs.Words.{IsComma, IsEquals, IsArrow}
 use Rattle.hr_grammar.specs.Spelled.{IsVariable, IsOwnOperator}
-use Rattle.hr_grammar.specs.Nodes.{TyPlace, PatPlace, ExpPlace, DeclPlace}
+use Rattle.hr_grammar.specs.Nodes.{Colons, TyPlace, PatPlace, ExpPlace, DeclPlace}
 use Rattle.hr_grammar.specs.Declarations.{DeclProduction, IsGuardedOver, IsBodyOver, IsWhereOver, IsDigit}
 use Rattle.hr_grammar.specs.Blocks.{IsPiece, AreBraced}
 use Rattle.hr_grammar.specs.Yields.{nodes, AreDeclarationsOver}
@@ -40,12 +40,12 @@ guarded_keeps : {P Q : List Item → Type 0} → InTrees P Q → (levels : ℕ) 
     → (guarded : Guarded Exp) → IsGuardedOver (nodes levels) IsMark guarded → P (guarded_items exp_items guarded)
 guarded_keeps h levels below IsMark mark guarded is =
     before h Class.ReservedOp (codes "|") guarded.bar (exp_items guarded.guard ++ guarded.mark ∷ exp_items guarded.body) is.0 refl
-    (h.joins.join (exp_items guarded.guard) (guarded.mark ∷ exp_items guarded.body) (below.exp false ExpPlace.Sequence guarded.guard is.1.0)
-    (put h.joins guarded.mark (exp_items guarded.body) (mark guarded.mark is.1.1.0) (below.exp true ExpPlace.Whole guarded.body is.1.1.1)))
+    (h.joins.join (exp_items guarded.guard) (guarded.mark ∷ exp_items guarded.body) (below.exp Colons.Barred ExpPlace.Sequence guarded.guard is.1.0)
+    (put h.joins guarded.mark (exp_items guarded.body) (mark guarded.mark is.1.1.0) (below.exp Colons.Allowed ExpPlace.Whole guarded.body is.1.1.1)))
 
 body_keeps : {P Q : List Item → Type 0} → InTrees P Q → (levels : ℕ) → Below P levels → (IsMark : Item → Type 0) → ((item : Item) → IsMark item → P (item ∷ []))
     → (body : Body Exp) → IsBodyOver (nodes levels) IsMark body → P (body_items exp_items body)
-body_keeps h levels below IsMark mark (Body.Plain sign body) is = put h.joins sign (exp_items body) (mark sign is.0) (below.exp true ExpPlace.Whole body is.1)
+body_keeps h levels below IsMark mark (Body.Plain sign body) is = put h.joins sign (exp_items body) (mark sign is.0) (below.exp Colons.Allowed ExpPlace.Whole body is.1)
 body_keeps h levels below IsMark mark (Body.Guarded list) is = all_of h.joins (guarded_items exp_items) (IsGuardedOver (nodes levels) IsMark) (guarded_keeps h levels below IsMark mark) list is.1
 
 where_keeps : {P Q : List Item → Type 0} → InTrees P Q → (levels : ℕ) → Below P levels → (locals : Option (Where Decl)) → IsWhereOver (nodes levels) locals → P (where_items decl_items locals)

@@ -1,7 +1,6 @@
 -- What goes over from the parts of trees to the whole is true of the items of each module.
-use Rattle.std.proofs.Common.{ℕ, List, subst}
+use Rattle.std.proofs.Common.{ℕ, List}
 use Rattle.hr_base.specs.declared.lexeme.Item.{Item}
-use Rattle.hr_base.specs.declared.lexeme.Items.{Items}
 use Rattle.hr_tree.specs.declared.modules.Module.{Module}
 use Rattle.hr_tree.specs.Lists.{block_items}
 use Rattle.hr_tree.specs.Yields.{decl_items, header_items, module_items}
@@ -16,7 +15,4 @@ modules_keep h levels tree is =
     h.joins.join (header_items tree.header) (block_items decl_items tree.body) (header_keeps h tree.header is.0) ((levels_keep h levels).declarations DeclPlace.Top tree.body is.1)
 
 pub trees_keep_lem : TreesKeep
-trees_keep_lem P Q h = (
-  λ levels free place exp is. (levels_keep h levels).exp free place exp is,
-  λ tree items yields. subst (λ (i : Items). P i.list) yields.items_are (modules_keep h yields.grammar.0 tree yields.grammar.1),
-)
+trees_keep_lem P Q h = (λ levels free place exp is. (levels_keep h levels).exp free place exp is, modules_keep h)

@@ -1,5 +1,0 @@
-use Rattle.hr_grammar_bracket_laws.proofs.Partners.{patterns_have_no_bar_lem}
-use Rattle.hr_grammar_bracket_laws.proofs.laws.patterns_have_no_bar.Goals as goal
-
-pub returns : goal.returns
-returns c = patterns_have_no_bar_lem

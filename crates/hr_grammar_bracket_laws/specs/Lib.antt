@@ -1,4 +1,0 @@
-pub mod Balance
-pub mod GuardBeforeBar
-pub mod Partners
-pub mod Texts

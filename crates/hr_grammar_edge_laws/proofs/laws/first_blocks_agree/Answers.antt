@@ -1,5 +1,0 @@
-use Rattle.hr_grammar_edge_laws.proofs.FirstBlocks.{first_blocks_agree_lem}
-use Rattle.hr_grammar_edge_laws.proofs.laws.first_blocks_agree.Goals as goal
-
-pub returns : goal.returns
-returns c = first_blocks_agree_lem
