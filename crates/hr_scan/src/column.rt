@@ -1,9 +1,8 @@
 //! The columns of a line.
 ghost use Rattle.std.specs.Prelude.{◌≡◌, ◌++◌, replicate, IfOk, OnOk};
 ghost use Rattle.hr_scan.specs.Columns.{columns_of, next_column};
-ghost use Rattle.hr_scan.specs.Characters.{cell_len};
 
-use crate::character::{Character, character_at};
+use crate::character::{Character, cell_len, character_at};
 use std::alloc::{AllocError, Global};
 
 const TAB: u32 = 0x09;
@@ -38,13 +37,6 @@ fn push_times(columns: &mut Vec<u32>, column: u32, bytes: usize) -> Result<(), A
         columns.push(column)?;
     }
     Ok(())
-}
-
-/// How many bytes a cell takes.
-fn cell_len(cell: Option<Character>) -> usize
-    ensures { result ≡ cell_len cell }
-{
-    cell.map_or(1, |character| character.len)
 }
 
 /// The column behind a cell that stands at this column.
