@@ -25,7 +25,7 @@ use Rattle.hr_rules.proofs.Apart.{piece_text, rules_keep_apart}
 use Rattle.hr_rules.proofs.Reading.{one_reading_lem}
 use Rattle.hr_rules.proofs.Stops.{one_stop_lem, stopped_has_none_lem}
 use Rattle.hr_lexer.specs.declared.error.LexError.{LexError}
-use Rattle.hr_lexer.specs.Refusals.{opens_comment, begins_wide, wide_by, Stuck, IsStop, IsCause, OrMemory, Reads, Refuses}
+use Rattle.hr_lexer.specs.Refusals.{opens_comment, begins_wide, wide_by, Stuck, IsStop, IsCause, OrMemory, GivesItems, Refuses}
 use Rattle.hr_lexer.proofs.Bytes.{both_left, class_are}
 
 -- what has items is UTF-8
@@ -206,6 +206,6 @@ module _ (bytes : List ℕ) where
       or_memory (IsStop bytes) (λ other. other ≡ error) found (λ stop. one_by bytes found error (inr (short, stop)) (cause bytes error c)) refused
 
   pub reads : (answer : Result Items LexError) → IfOk answer (λ items. LexesText bytes items) → IfErr answer (OrMemory (IsStop bytes))
-      → (items : Items) → LexesText bytes items → Reads items answer
+      → (items : Items) → LexesText bytes items → GivesItems items answer
   reads (Ok found) read refused items lexes = one_reading_lem bytes found items read lexes
   reads (Err found) read refused items lexes = or_memory (IsStop bytes) (λ error. ⊥) found (λ stop. no_items bytes found items stop lexes) refused

@@ -4,7 +4,7 @@ use Rattle.hr_rules.specs.Runs.{begins}
 use Rattle.hr_rules.specs.Numbers.{is_decimal, is_digits, is_e, is_exponent, ends_fraction, is_fraction, ends_float, begins_exponent, begins_float}
 use Rattle.hr_rules.proofs.Apart.{both, both_right}
 use Rattle.hr_lexer.specs.NumberReader.{digits_len, with_more, signed_len, exponent_len, fraction_len, float_part_len, float_len}
-use Rattle.hr_lexer.proofs.Longest.{Longest, some_there, agreeing, behind, in_empty, none_there, digits}
+use Rattle.hr_lexer.proofs.Longest.{Longest, some_there, agreeing, longest_behind, in_empty, none_there, digits}
 use Rattle.hr_lexer.proofs.RunsRead.{one_more, no_run}
 
 -- behind the letter of an exponent
@@ -17,7 +17,7 @@ same_fronts is other c rest e f (suc m) = f (take m rest)
 
 signed_by : (b : Bool) (c : ℕ) (rest : List ℕ) → (c == 43 || c == 45) ≡ b
     → Longest is_exponent (cond b (begins is_decimal rest) (is_decimal c)) (c ∷ rest) (cond b (with_more 1 (digits_len 10 rest)) (digits_len 10 (c ∷ rest)))
-signed_by true c rest e = behind (is_digits is_decimal) is_exponent (begins is_decimal rest) c rest (digits_len 10 rest) refl (sign_test true c e) (digits is_decimal rest)
+signed_by true c rest e = longest_behind (is_digits is_decimal) is_exponent (begins is_decimal rest) c rest (digits_len 10 rest) refl (sign_test true c e) (digits is_decimal rest)
 signed_by false c rest e =
     agreeing (is_digits is_decimal) is_exponent (is_decimal c) (c ∷ rest) (digits_len 10 (c ∷ rest))
     (same_fronts (is_digits is_decimal) is_exponent c rest refl (sign_test false c e)) (digits is_decimal (c ∷ rest))
@@ -42,7 +42,7 @@ no_letter c rest e (suc m) = ap (λ b. b && is_exponent (take m rest)) e
 exponent_part_by : (b : Bool) (c : ℕ) (rest : List ℕ) → is_e c ≡ b
     → Longest has_exponent (b && begins_exponent rest) (c ∷ rest) (cond b (with_more 1 (signed_len rest)) 0)
 exponent_part_by true c rest e =
-    behind is_exponent has_exponent (begins_exponent rest) c rest (signed_len rest) refl (λ x. ap (λ b. b && is_exponent x) e) (signed rest)
+    longest_behind is_exponent has_exponent (begins_exponent rest) c rest (signed_len rest) refl (λ x. ap (λ b. b && is_exponent x) e) (signed rest)
 exponent_part_by false c rest e = none_there has_exponent (c ∷ rest) (no_letter c rest e)
 
 pub exponent : (text : List ℕ) → Longest has_exponent (starts_exponent text) text (exponent_len text)
@@ -163,7 +163,7 @@ dot_test b c e x = ap (λ z. cond z (is_fraction x) (is_e c && is_exponent x)) e
 
 float_part_by : (b : Bool) (c : ℕ) (rest : List ℕ) → (c == 46) ≡ b
     → Longest is_float_part (cond b (begins is_decimal rest) (is_e c && begins_exponent rest)) (c ∷ rest) (cond b (with_more 1 (fraction_len rest)) (exponent_len (c ∷ rest)))
-float_part_by true c rest e = behind is_fraction is_float_part (begins is_decimal rest) c rest (fraction_len rest) refl (dot_test true c e) (fraction rest)
+float_part_by true c rest e = longest_behind is_fraction is_float_part (begins is_decimal rest) c rest (fraction_len rest) refl (dot_test true c e) (fraction rest)
 float_part_by false c rest e =
     agreeing has_exponent is_float_part (is_e c && begins_exponent rest) (c ∷ rest) (exponent_len (c ∷ rest))
     (same_fronts has_exponent is_float_part c rest refl (dot_test false c e)) (exponent (c ∷ rest))
@@ -195,7 +195,7 @@ float_by : (b : Bool) (c : ℕ) (rest : List ℕ) → is_decimal c ≡ b → Lon
     → Longest ends_float (cond b (begins_float rest) (begins_float_part (c ∷ rest))) (c ∷ rest) (float_len (c ∷ rest))
 float_by true c rest e l =
     subst (Longest ends_float (begins_float rest) (c ∷ rest)) (sym (float_digit c rest e))
-    (behind ends_float ends_float (begins_float rest) c rest (float_len rest) refl (float_test true c e) l)
+    (longest_behind ends_float ends_float (begins_float rest) c rest (float_len rest) refl (float_test true c e) l)
 float_by false c rest e l =
     subst (Longest ends_float (begins_float_part (c ∷ rest)) (c ∷ rest)) (sym (float_no_digit c rest e))
     (agreeing is_float_part ends_float (begins_float_part (c ∷ rest)) (c ∷ rest) (float_part_len (c ∷ rest))

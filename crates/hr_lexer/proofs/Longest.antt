@@ -62,9 +62,9 @@ more_begins n = grind arith
 more_within : (n l : ℕ) → n ≤ l → with_more 1 n ≤ suc l
 more_within n l e = grind arith
 
-pub behind : (is other : List ℕ → Bool) (some : Bool) (c : ℕ) (rest : List ℕ) (n : ℕ) → other [] ≡ false → ((x : List ℕ) → other (c ∷ x) ≡ is x) → Longest is some rest n
+pub longest_behind : (is other : List ℕ → Bool) (some : Bool) (c : ℕ) (rest : List ℕ) (n : ℕ) → other [] ≡ false → ((x : List ℕ) → other (c ∷ x) ≡ is x) → Longest is some rest n
     → Longest other some (c ∷ rest) (with_more 1 n)
-behind is other some c rest n empty same l = record {
+longest_behind is other some c rest n empty same l = record {
   begins = l.begins ∙ more_begins n;
   within = more_within n (length rest) l.within;
   right = λ e. behind_right is other c rest n same (l.right e) (n == 0) refl (sym l.begins ∙ e);

@@ -13,7 +13,7 @@ use Rattle.hr_rules.specs.Comments.{goes_on, begins_line_comment, opens}
 use Rattle.hr_rules.proofs.Apart.{both, both_left, both_right, not_true, and_false}
 use Rattle.hr_lexer.specs.declared.taken.Taken.{Taken}
 use Rattle.hr_lexer.specs.NameReader.{word_at, symbols_at}
-use Rattle.hr_lexer.proofs.Statements.{Reads, ReadsRight, ReadsLongest}
+use Rattle.hr_lexer.proofs.Statements.{KindReads, ReadsRight, ReadsLongest}
 use Rattle.hr_lexer.proofs.RunsRead.{one_more, no_run, run_more, whole_run, whole_run_len, some_is, none_some, some_test, len_of, class_in, taken_right, ReadParts}
 
 -- words
@@ -38,7 +38,7 @@ small_longest c front after k free some =
     one_more is_in_name c (front ++ after) (ap continues_name k) ∙ ap suc (whole_run_len is_in_name front after run) in
     (word_at (c ∷ (front ++ after)), refl, omega (arith, len))
 
-pub small : Reads Kind.Small
+pub small : KindReads Kind.Small
 small = record { right = small_right; longest = small_longest }
 
 -- what is one where a test fails
@@ -138,7 +138,7 @@ symbol_longest c front after k free some =
     let test : (is_run is_symbol front after && not (is_dashes (c ∷ front))) ≡ true = some_test (is_run is_symbol front after && not (is_dashes (c ∷ front))) (run_class (c ∷ front)) some in
     (record { class = run_class (c ∷ front); len = suc (length front) }, symbols_are c front after (ap is_symbol_kind k) test, omega arith)
 
-pub symbol : Reads Kind.Symbol
+pub symbol : KindReads Kind.Symbol
 symbol = record { right = symbol_right; longest = symbol_longest }
 
 -- special characters
@@ -157,5 +157,5 @@ special_longest : ReadsLongest Kind.Special
 special_longest c [] after k free some = (record { class = Class.Special; len = 1 }, ap (λ b. cond b None (Some (record { class = Class.Special; len = 1 }))) free, omega arith)
 special_longest c (d ∷ front) after k free some = absurd (true≢false (sym some))
 
-pub special : Reads Kind.Special
+pub special : KindReads Kind.Special
 special = record { right = special_right; longest = special_longest }

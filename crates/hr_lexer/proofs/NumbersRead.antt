@@ -11,7 +11,7 @@ use Rattle.hr_rules.proofs.Digits.{digit_decimal}
 use Rattle.hr_lexer.specs.declared.numbers.Digits.{Digits}
 use Rattle.hr_lexer.specs.declared.taken.Taken.{Taken}
 use Rattle.hr_lexer.specs.NumberReader.{digits_len, with_more, float_part_len, float_len, integer_digits, is_wide, integer_at, number_at}
-use Rattle.hr_lexer.proofs.Statements.{Reads, ReadsRight, ReadsLongest}
+use Rattle.hr_lexer.proofs.Statements.{KindReads, ReadsRight, ReadsLongest}
 use Rattle.hr_lexer.proofs.RunsRead.{some_is, len_of, class_in, taken_right, ReadParts}
 use Rattle.hr_lexer.proofs.NamesRead.{kept}
 use Rattle.hr_lexer.proofs.Longest.{some_there, more_all}
@@ -169,5 +169,5 @@ digit_longest c front after k free some =
     number_on c rest m (digit_decimal c k) in_text free (ends_float (take m rest)) refl
     (subst (λ t. IsSome (number_class c t)) (sym (take-append_seam front after)) some)
 
-pub digit_reads : Reads Kind.Digit
+pub digit_reads : KindReads Kind.Digit
 digit_reads = record { right = digit_right; longest = digit_longest }

@@ -9,7 +9,7 @@ use Rattle.hr_base.specs.declared.lexeme.Item.{Item}
 use Rattle.hr_base.specs.declared.lexeme.Items.{Items}
 use Rattle.hr_rules.specs.declared.character.Kind.{Kind}
 use Rattle.hr_rules.specs.Letters.{kind_of, is_in_name, is_symbol}
-use Rattle.hr_rules.specs.Runs.{stops, is_run, begins_with}
+use Rattle.hr_rules.specs.Runs.{ends_run, is_run, begins_with}
 use Rattle.hr_rules.specs.Operators.{is_dashes, is_reserved_operator}
 use Rattle.hr_rules.specs.Qualified.{qualified, name_class, conid_class}
 use Rattle.hr_rules.specs.Numbers.{ends_float, integer_class, integer_value, greatest_integer}
@@ -86,7 +86,7 @@ never_qualified (Some Class.ConSym) = refl
 never_qualified (Some _) = refl
 
 never_conid : (rest after : List ℕ) → is_varid (conid_class rest after) ≡ false
-never_conid [] after = never_if (stops is_in_name after) (Some Class.ConId) None refl refl
+never_conid [] after = never_if (ends_run is_in_name after) (Some Class.ConId) None refl refl
 never_conid (c ∷ rest) after =
     never_if (is_in_name c) (conid_class rest after) (cond (c == 46) (qualified (name_class rest after)) None) (never_conid rest after)
     (never_if (c == 46) (qualified (name_class rest after)) None (never_qualified (name_class rest after)) refl)

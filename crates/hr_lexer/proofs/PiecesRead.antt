@@ -6,7 +6,7 @@ use Rattle.std.proofs.lemmas.List.Sums.{prefix_len-le-length}
 use Rattle.hr_rules.specs.declared.character.Kind.{Kind}
 use Rattle.hr_rules.specs.Letters.{kind_of}
 use Rattle.hr_rules.specs.Operators.{is_dash}
-use Rattle.hr_rules.specs.Runs.{is_run, stops}
+use Rattle.hr_rules.specs.Runs.{is_run, ends_run}
 use Rattle.hr_rules.specs.Comments.{goes_on, begins_line_comment, is_in_line, is_line_comment, is_nested_comment, opens, shuts, shut, closed_len, ends_there}
 use Rattle.hr_rules.specs.Lexemes.{is_empty, spelled_piece, spelled_piece_by}
 use Rattle.hr_rules.proofs.Apart.{both_left, both_right, both, and_false, goes_on_over, begins_over, closed_over, ends, Keeps}
@@ -31,11 +31,11 @@ some_suc (Some m) n e = (m, cc, refl)
 dash_in_line : (d : ℕ) → is_dash d ≡ true → is_in_line d ≡ true
 dash_in_line d e = let is : d ≡ 45 = grind arith in subst (λ x. is_in_line x ≡ true) (sym is) refl
 
-no_dash : (d : ℕ) (after : List ℕ) {A : Type 0} → stops is_in_line (d ∷ after) ≡ true → is_dash d ≡ true → A
+no_dash : (d : ℕ) (after : List ℕ) {A : Type 0} → ends_run is_in_line (d ∷ after) ≡ true → is_dash d ≡ true → A
 no_dash d after stop dash = absurd (true≢false (sym stop ∙ ap not (dash_in_line d dash)))
 
 -- a line comment begins the line alone
-begins_under : (x after : List ℕ) → stops is_in_line after ≡ true → begins_line_comment (x ++ after) ≡ true → begins_line_comment x ≡ true
+begins_under : (x after : List ℕ) → ends_run is_in_line after ≡ true → begins_line_comment (x ++ after) ≡ true → begins_line_comment x ≡ true
 begins_under [] [] stop is = is
 begins_under [] (b ∷ []) stop is = absurd (true≢false (sym is))
 begins_under [] (b ∷ d ∷ after) stop is = no_dash b (d ∷ after) stop (both_left (is_dash b) (is_dash d) (both_left (is_dash b && is_dash d) (not (goes_on after)) is))
@@ -48,7 +48,7 @@ line_front : (text : List ℕ) → begins_line_comment text ≡ true → is_line
 line_front text is =
     let n : ℕ = prefix_len is_in_line text in
     let run : is_run is_in_line (take n text) (drop n text) ≡ true = whole_run is_in_line text in
-    let stop : stops is_in_line (drop n text) ≡ true = both_right (list_all is_in_line (take n text)) (stops is_in_line (drop n text)) run in
+    let stop : ends_run is_in_line (drop n text) ≡ true = both_right (list_all is_in_line (take n text)) (ends_run is_in_line (drop n text)) run in
     let whole : begins_line_comment (take n text ++ drop n text) ≡ true = ap begins_line_comment (take-append-drop n text) ∙ is in
     both (begins_line_comment (take n text)) (is_run is_in_line (take n text) (drop n text)) (begins_under (take n text) (drop n text) stop whole) run
 
@@ -185,7 +185,7 @@ one_found c (d ∷ x) is = absurd (true≢false (sym is))
 line_found : (x after : List ℕ) → is_line_comment x after ≡ true → line_comment_len (x ++ after) ≡ Some (length x)
 line_found x after is =
     let run : is_run is_in_line x after ≡ true = both_right (begins_line_comment x) (is_run is_in_line x after) is in
-    let stop : stops is_in_line after ≡ true = both_right (list_all is_in_line x) (stops is_in_line after) run in
+    let stop : ends_run is_in_line after ≡ true = both_right (list_all is_in_line x) (ends_run is_in_line after) run in
     let begin : begins_line_comment (x ++ after) ≡ true = begins_over x after stop (both_left (begins_line_comment x) (is_run is_in_line x after) is) in
     ap (λ b. cond b (Some (prefix_len is_in_line (x ++ after))) None) begin ∙ ap Some (whole_run_len is_in_line x after run)
 

@@ -6,14 +6,14 @@ use Rattle.std.specs.Option.{IsSome, is_some}
 use Rattle.hr_base.specs.declared.lexeme.Class.{Class}
 use Rattle.hr_rules.specs.declared.character.Kind.{Kind}
 use Rattle.hr_rules.specs.Letters.{kind_of, continues_name, is_symbol_kind, is_in_name, is_symbol}
-use Rattle.hr_rules.specs.Runs.{begins_with, is_run, stops}
+use Rattle.hr_rules.specs.Runs.{begins_with, is_run, ends_run}
 use Rattle.hr_rules.specs.Names.{is_reserved_word, word_class, small_class, large_class}
 use Rattle.hr_rules.specs.Operators.{is_dashes, is_reserved_operator, run_class, symbol_class}
 use Rattle.hr_rules.specs.Qualified.{qualified, name_class, name_class_by, conid_class, qualifies_reserved}
 use Rattle.hr_rules.proofs.Apart.{not_true}
 use Rattle.hr_lexer.specs.declared.taken.Taken.{Taken}
 use Rattle.hr_lexer.specs.NameReader.{word_at, symbols_at, name_at, name_at_by, behind_dot, with_qualifier, with_qualifier_by, conid_at}
-use Rattle.hr_lexer.proofs.Statements.{Reads, ReadsLongest}
+use Rattle.hr_lexer.proofs.Statements.{KindReads, ReadsLongest}
 use Rattle.hr_lexer.proofs.NamesRead.{kept, symbols_are}
 use Rattle.hr_lexer.proofs.RunsRead.{one_more, run_all, run_stops, whole_run_len, none_some, some_is}
 use Rattle.hr_lexer.proofs.QualifiedRead.{word, conid_over, reserved_over, conid_by_run, large_right}
@@ -84,7 +84,7 @@ long_dot : (n : ℕ) (tail : List ℕ) (dot : Bool) → (dot && is_reserved_word
 long_dot n tail true free = long_name n (name_at tail) (λ taken e. not_reserved tail taken (is_reserved_class taken.class) free e refl)
 long_dot n tail false free = (record { class = Class.ConId; len = n }, refl, omega arith)
 
-long_conid : (n : ℕ) (after : List ℕ) → stops is_in_name after ≡ true → qualifies_reserved after ≡ false → LongAs n (with_qualifier n (behind_dot after))
+long_conid : (n : ℕ) (after : List ℕ) → ends_run is_in_name after ≡ true → qualifies_reserved after ≡ false → LongAs n (with_qualifier n (behind_dot after))
 long_conid n [] stop free = (record { class = Class.ConId; len = n }, refl, omega arith)
 long_conid n (d ∷ tail) stop free =
     long_dot n tail (d == 46) (sym (ap (λ b. cond b (qualifies_reserved tail) (d == 46 && is_reserved_word (word tail))) (not_true (is_in_name d) stop)) ∙ free)
@@ -162,10 +162,10 @@ stop_of : (b : Bool) → IsSome (cond b (Some Class.ConId) None) → b ≡ true
 stop_of true some = refl
 stop_of false some = absurd (true≢false (sym some))
 
-split_found : (c : ℕ) (run behind after : List ℕ) → is_in_name c ≡ true → list_all is_in_name run ≡ true → stops is_in_name behind ≡ true → qualifies_reserved ((run ++ behind) ++ after) ≡ false
+split_found : (c : ℕ) (run behind after : List ℕ) → is_in_name c ≡ true → list_all is_in_name run ≡ true → ends_run is_in_name behind ≡ true → qualifies_reserved ((run ++ behind) ++ after) ≡ false
     → IsSome (conid_class (run ++ behind) after) → LongAs (length (c ∷ (run ++ behind))) (conid_at (c ∷ ((run ++ behind) ++ after)))
 split_found c run [] after named all stop free some =
-    let ends : stops is_in_name after ≡ true = stop_of (stops is_in_name after) (sym (ap is_some (conid_over run [] after all)) ∙ some) in
+    let ends : ends_run is_in_name after ≡ true = stop_of (ends_run is_in_name after) (sym (ap is_some (conid_over run [] after all)) ∙ some) in
     let none : qualifies_reserved after ≡ false = sym (ap qualifies_reserved (append_assoc run [] after) ∙ reserved_over run after all) ∙ free in
     let long = long_conid (suc (length run)) after ends none in
     let size : length (run ++ []) ≡ length run + 0 = length-append run [] in
@@ -188,5 +188,5 @@ large_longest c front after k free some =
     subst (λ x. qualifies_reserved (x ++ after) ≡ false → IsSome (conid_class x after) → LongAs (length (c ∷ x)) (conid_at (c ∷ (x ++ after)))) (take-append-drop n front)
     (split_found c (take n front) (drop n front) after (ap continues_name k) (run_all is_in_name front) (run_stops is_in_name front)) free some
 
-pub large_reads : Reads Kind.Large
+pub large_reads : KindReads Kind.Large
 large_reads = record { right = large_right; longest = large_longest }

@@ -6,7 +6,7 @@ use Rattle.std.specs.List.{list_all, prefix_len}
 use Rattle.hr_base.specs.declared.lexeme.Class.{Class}
 use Rattle.hr_rules.specs.declared.character.Kind.{Kind}
 use Rattle.hr_rules.specs.Letters.{kind_of, continues_name, is_in_name}
-use Rattle.hr_rules.specs.Runs.{begins_word, stops}
+use Rattle.hr_rules.specs.Runs.{begins_word, ends_run}
 use Rattle.hr_rules.specs.Names.{small_class, is_spelled, is_one_of, is_reserved_word, reserved_words}
 use Rattle.hr_rules.specs.Operators.{symbol_class}
 use Rattle.hr_rules.specs.Qualified.{qualified, name_class, name_class_by, conid_class, qualifies_reserved}
@@ -98,7 +98,7 @@ conid_over (c ∷ run) rest after all =
     ap (λ b. cond b (conid_class (run ++ rest) after) (cond (c == 46) (qualified (name_class (run ++ rest) after)) None)) (both_left (is_in_name c) (list_all is_in_name run) all)
     ∙ conid_over run rest after (both_right (is_in_name c) (list_all is_in_name run) all)
 
-conid_ends : (run after : List ℕ) → list_all is_in_name run ≡ true → stops is_in_name after ≡ true → conid_class run after ≡ Some Class.ConId
+conid_ends : (run after : List ℕ) → list_all is_in_name run ≡ true → ends_run is_in_name after ≡ true → conid_class run after ≡ Some Class.ConId
 conid_ends [] after all stop = ap (λ b. cond b (Some Class.ConId) None) stop
 conid_ends (c ∷ run) after all stop =
     ap (λ b. cond b (conid_class run after) (cond (c == 46) (qualified (name_class run after)) None)) (both_left (is_in_name c) (list_all is_in_name run) all)
@@ -118,7 +118,7 @@ free_by n d tail taken e true f false g = ap (λ x. x && is_reserved_word (word 
 free_by n d tail taken e true f true g =
     absurd (none_some (sym (ap (λ b. with_qualifier n (cond b (name_at tail) None)) f ∙ ap (with_qualifier n) (reserved_read tail g)) ∙ e))
 
-free_behind : (n : ℕ) (behind : List ℕ) (taken : Taken) → stops is_in_name behind ≡ true → with_qualifier n (behind_dot behind) ≡ Some taken → qualifies_reserved behind ≡ false
+free_behind : (n : ℕ) (behind : List ℕ) (taken : Taken) → ends_run is_in_name behind ≡ true → with_qualifier n (behind_dot behind) ≡ Some taken → qualifies_reserved behind ≡ false
 free_behind n [] taken stop e = refl
 free_behind n (d ∷ tail) taken stop e =
     ap (λ b. cond b (qualifies_reserved tail) (d == 46 && is_reserved_word (word tail))) (not_true (is_in_name d) stop)
@@ -160,7 +160,7 @@ named_right [] taken e = absurd (none_some e)
 named_right (c ∷ rest) taken e = named_by (kind_of c) c rest taken refl e
 
 -- a conid alone
-plain : (run behind : List ℕ) (taken : Taken) → list_all is_in_name run ≡ true → stops is_in_name behind ≡ true
+plain : (run behind : List ℕ) (taken : Taken) → list_all is_in_name run ≡ true → ends_run is_in_name behind ≡ true
     → ◌≡◌ {A = Taken} (record { class = Class.ConId; len = suc (length run) }) taken → ReadParts conid_class (run ++ behind) taken
 plain run behind taken all stop is =
     let within : length run ≤ length (run ++ behind) = omega (arith, length-append run behind) in (
@@ -212,19 +212,19 @@ conid_dot : (run : List ℕ) (d : ℕ) (tail : List ℕ) (taken : Taken) → lis
 conid_dot run d tail taken all stop true f e = conid_named run d tail taken (name_at tail) all stop f refl e
 conid_dot run d tail taken all stop false f e = plain run (d ∷ tail) taken all (ap not stop) (some_is (record { class = Class.ConId; len = suc (length run) }) taken e)
 
-conid_parts : (run behind : List ℕ) (taken : Taken) → list_all is_in_name run ≡ true → stops is_in_name behind ≡ true
+conid_parts : (run behind : List ℕ) (taken : Taken) → list_all is_in_name run ≡ true → ends_run is_in_name behind ≡ true
     → with_qualifier (suc (length run)) (behind_dot behind) ≡ Some taken → ReadParts conid_class (run ++ behind) taken
 conid_parts run [] taken all stop e = plain run [] taken all stop (some_is (record { class = Class.ConId; len = suc (length run) }) taken e)
 conid_parts run (d ∷ tail) taken all stop e = conid_dot run d tail taken all (not_true (is_in_name d) stop) (d == 46) refl e
 
 -- a conid is read by its run
-pub conid_by_run : (c : ℕ) (run behind : List ℕ) → is_in_name c ≡ true → list_all is_in_name run ≡ true → stops is_in_name behind ≡ true
+pub conid_by_run : (c : ℕ) (run behind : List ℕ) → is_in_name c ≡ true → list_all is_in_name run ≡ true → ends_run is_in_name behind ≡ true
     → conid_at (c ∷ (run ++ behind)) ≡ with_qualifier (suc (length run)) (behind_dot behind)
 conid_by_run c run behind named all stop =
     let len : prefix_len is_in_name (c ∷ (run ++ behind)) ≡ suc (length run) = one_more is_in_name c (run ++ behind) named ∙ ap suc (run_len is_in_name run behind all stop) in
     ap (λ n. with_qualifier n (behind_dot (drop n (c ∷ (run ++ behind))))) len ∙ ap (λ x. with_qualifier (suc (length run)) (behind_dot x)) (drop-append_seam run behind)
 
-large_split : (c : ℕ) (run behind : List ℕ) (taken : Taken) → kind_of c ≡ Kind.Large → list_all is_in_name run ≡ true → stops is_in_name behind ≡ true
+large_split : (c : ℕ) (run behind : List ℕ) (taken : Taken) → kind_of c ≡ Kind.Large → list_all is_in_name run ≡ true → ends_run is_in_name behind ≡ true
     → conid_at (c ∷ (run ++ behind)) ≡ Some taken → (qualifies_reserved (run ++ behind) ≡ false) × ReadParts conid_class (run ++ behind) taken
 large_split c run behind taken k all stop e =
     let e' : with_qualifier (suc (length run)) (behind_dot behind) ≡ Some taken = sym (conid_by_run c run behind (ap continues_name k) all stop) ∙ e in

@@ -8,7 +8,7 @@ use Rattle.hr_rules.specs.Lexemes.{spelled_class, spelled_class_by}
 use Rattle.hr_rules.specs.Quotes.{backslash, quote, double_quote, is_plain, is_closed, closed_behind, escape_len, char_len, string_escape_len, behind_escape, string_len_past, string_len, literal_class}
 use Rattle.hr_lexer.specs.declared.taken.Taken.{Taken}
 use Rattle.hr_lexer.specs.QuoteReader.{literal}
-use Rattle.hr_lexer.proofs.Statements.{Reads}
+use Rattle.hr_lexer.proofs.Statements.{KindReads}
 use Rattle.hr_lexer.proofs.PiecesRead.{some_if, some_suc}
 use Rattle.hr_lexer.proofs.Agreeing.{Agree, agree_same, agree_cond, agree_map}
 use Rattle.hr_lexer.proofs.EscapesRead.{escape_agree, string_escape_agree}
@@ -218,7 +218,7 @@ literal_long : (class : Class) (len : List ℕ → Option ℕ) → Measures len 
 literal_long class len laws front after some =
     ap (literal class) ((laws.agree front after (length front) (omega arith)).0 (literal_is class (len front) front some))
 
-pub quote_reads : Reads Kind.Quote
+pub quote_reads : KindReads Kind.Quote
 quote_reads = record {
   right = λ c rest taken k e.
       let cut = literal_cut Class.Char char_len char_measures rest (char_len rest) taken refl e in
@@ -231,7 +231,7 @@ quote_reads = record {
       (record { class = Class.Char; len = suc (length front) }, literal_long Class.Char char_len char_measures front after some, omega arith);
 }
 
-pub double_quote_reads : Reads Kind.DoubleQuote
+pub double_quote_reads : KindReads Kind.DoubleQuote
 double_quote_reads = record {
   right = λ c rest taken k e.
       let cut = literal_cut Class.Str string_len string_measures rest (string_len rest) taken refl e in

@@ -5,7 +5,7 @@ use Rattle.std.specs.Option.{IsSome}
 use Rattle.hr_base.specs.declared.lexeme.Class.{Class}
 use Rattle.hr_rules.specs.declared.character.Kind.{Kind}
 use Rattle.hr_rules.specs.Letters.{kind_of}
-use Rattle.hr_rules.specs.Runs.{is_run, stops}
+use Rattle.hr_rules.specs.Runs.{is_run, ends_run}
 use Rattle.hr_rules.specs.Lexemes.{spelled_class, spelled_class_by, spelled_bars_by}
 use Rattle.hr_rules.proofs.Apart.{both, both_left, both_right, not_true}
 use Rattle.hr_lexer.specs.declared.taken.Taken.{Taken}
@@ -36,26 +36,26 @@ run_all p [] = refl
 run_all p (c ∷ rest) = run_all_by p c rest (run_all p rest) (p c) refl
 
 -- and it is whole
-run_stops_by : (p : ℕ → Bool) (c : ℕ) (rest : List ℕ) → stops p (drop (prefix_len p rest) rest) ≡ true → (b : Bool) → p c ≡ b → stops p (drop (prefix_len p (c ∷ rest)) (c ∷ rest)) ≡ true
-run_stops_by p c rest so true e = ap (stops p) (behind_more p c rest e) ∙ so
-run_stops_by p c rest so false e = ap (λ n. stops p (drop n (c ∷ rest))) (no_run p c rest e) ∙ ap not e
+run_stops_by : (p : ℕ → Bool) (c : ℕ) (rest : List ℕ) → ends_run p (drop (prefix_len p rest) rest) ≡ true → (b : Bool) → p c ≡ b → ends_run p (drop (prefix_len p (c ∷ rest)) (c ∷ rest)) ≡ true
+run_stops_by p c rest so true e = ap (ends_run p) (behind_more p c rest e) ∙ so
+run_stops_by p c rest so false e = ap (λ n. ends_run p (drop n (c ∷ rest))) (no_run p c rest e) ∙ ap not e
 
-pub run_stops : (p : ℕ → Bool) (text : List ℕ) → stops p (drop (prefix_len p text) text) ≡ true
+pub run_stops : (p : ℕ → Bool) (text : List ℕ) → ends_run p (drop (prefix_len p text) text) ≡ true
 run_stops p [] = refl
 run_stops p (c ∷ rest) = run_stops_by p c rest (run_stops p rest) (p c) refl
 
 pub whole_run : (p : ℕ → Bool) (text : List ℕ) → is_run p (take (prefix_len p text) text) (drop (prefix_len p text) text) ≡ true
-whole_run p text = both (list_all p (take (prefix_len p text) text)) (stops p (drop (prefix_len p text) text)) (run_all p text) (run_stops p text)
+whole_run p text = both (list_all p (take (prefix_len p text) text)) (ends_run p (drop (prefix_len p text) text)) (run_all p text) (run_stops p text)
 
 -- a whole run is what is counted
-pub run_len : (p : ℕ → Bool) (front after : List ℕ) → list_all p front ≡ true → stops p after ≡ true → prefix_len p (front ++ after) ≡ length front
+pub run_len : (p : ℕ → Bool) (front after : List ℕ) → list_all p front ≡ true → ends_run p after ≡ true → prefix_len p (front ++ after) ≡ length front
 run_len p [] [] f g = refl
 run_len p [] (d ∷ after) f g = no_run p d after (not_true (p d) g)
 run_len p (c ∷ front) after f g =
     one_more p c (front ++ after) (both_left (p c) (list_all p front) f) ∙ ap suc (run_len p front after (both_right (p c) (list_all p front) f) g)
 
 pub whole_run_len : (p : ℕ → Bool) (front after : List ℕ) → is_run p front after ≡ true → prefix_len p (front ++ after) ≡ length front
-whole_run_len p front after e = run_len p front after (both_left (list_all p front) (stops p after) e) (both_right (list_all p front) (stops p after) e)
+whole_run_len p front after e = run_len p front after (both_left (list_all p front) (ends_run p after) e) (both_right (list_all p front) (ends_run p after) e)
 
 -- on what may be there
 pub some_is : {A : Type 0} (a b : A) → ◌≡◌ {A = Option A} (Some a) (Some b) → a ≡ b

@@ -20,7 +20,7 @@ ReadsLongest kind = (c : ℕ) (front after : List ℕ) → kind_of c ≡ kind �
     → IsSome (spelled_class_by kind c front after)
     → (taken : Taken) × (lexeme_at_by kind c (front ++ after) ≡ Some taken) × (length (c ∷ front) ≤ taken.len)
 
-pub record Reads (kind : Kind) : Type 0 where
+pub record KindReads (kind : Kind) : Type 0 where
   pub right : ReadsRight kind
   pub longest : ReadsLongest kind
 

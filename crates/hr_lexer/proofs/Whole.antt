@@ -5,20 +5,20 @@ use Rattle.hr_rules.specs.declared.character.Kind.{Kind}
 use Rattle.hr_rules.specs.Letters.{kind_of}
 use Rattle.hr_rules.specs.Lexemes.{spelled_class_by}
 use Rattle.hr_lexer.specs.LexemeReader.{lexeme_at_by}
-use Rattle.hr_lexer.proofs.Statements.{Reads, LexemeRight, LexemeLongest}
+use Rattle.hr_lexer.proofs.Statements.{KindReads, LexemeRight, LexemeLongest}
 
 -- each kind of character that begins lexemes, by its statement
 pub record EachKind : Type 0 where
-  pub small : Reads Kind.Small
-  pub large : Reads Kind.Large
-  pub symbol : Reads Kind.Symbol
-  pub special : Reads Kind.Special
-  pub digit : Reads Kind.Digit
-  pub quote : Reads Kind.Quote
-  pub double_quote : Reads Kind.DoubleQuote
+  pub small : KindReads Kind.Small
+  pub large : KindReads Kind.Large
+  pub symbol : KindReads Kind.Symbol
+  pub special : KindReads Kind.Special
+  pub digit : KindReads Kind.Digit
+  pub quote : KindReads Kind.Quote
+  pub double_quote : KindReads Kind.DoubleQuote
 
 -- no lexeme begins with a character of another kind
-nothing : (kind : Kind) → ((c : ℕ) (rest : List ℕ) → lexeme_at_by kind c rest ≡ None) → ((c : ℕ) (front after : List ℕ) → spelled_class_by kind c front after ≡ None) → Reads kind
+nothing : (kind : Kind) → ((c : ℕ) (rest : List ℕ) → lexeme_at_by kind c rest ≡ None) → ((c : ℕ) (front after : List ℕ) → spelled_class_by kind c front after ≡ None) → KindReads kind
 nothing kind no_lexeme no_class = record {
   right = λ c rest taken k e. absurd (none_some (sym (no_lexeme c rest) ∙ e));
   longest = λ c front after k free some. absurd (true≢false (sym some ∙ ap is_some (no_class c front after)));
@@ -27,7 +27,7 @@ nothing kind no_lexeme no_class = record {
     none_some : {A : Type 0} {x : A} → None ≡ Some x → ⊥
     none_some e = cc
 
-pub of_kind : EachKind → (kind : Kind) → Reads kind
+pub of_kind : EachKind → (kind : Kind) → KindReads kind
 of_kind each Kind.Small = each.small
 of_kind each Kind.Large = each.large
 of_kind each Kind.Symbol = each.symbol

@@ -5,6 +5,7 @@ pub mod NameReader
 pub mod NumberReader
 pub mod QuoteReader
 pub mod Refusals
+pub mod Shown
 pub mod Spans
 pub mod TriviaReader
 pub mod Words

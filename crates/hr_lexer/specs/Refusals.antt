@@ -54,8 +54,8 @@ abbrev pub Refuses : LexError → Result Items LexError → Type 0
 Refuses error answer = MatchResult answer (λ items. ⊥) (OrMemory (λ other. other ≡ error))
 
 -- a call answers with these items, or has no memory
-abbrev pub Reads : Items → Result Items LexError → Type 0
-Reads items answer = MatchResult answer (λ others. others ≡ items) (OrMemory (λ error. ⊥))
+abbrev pub GivesItems : Items → Result Items LexError → Type 0
+GivesItems items answer = MatchResult answer (λ others. others ≡ items) (OrMemory (λ error. ⊥))
 
 -- why nothing fits where these characters are left
 abbrev pub cause_by : Kind → ℕ → LexError

@@ -12,20 +12,20 @@ item_at span text = record {
 }
 
 -- what is behind it
-abbrev pub behind : Span → List ℕ → List ℕ
-behind span text = drop span.taken.len (drop span.trivia text)
+abbrev pub past_span : Span → List ℕ → List ℕ
+past_span span text = drop span.taken.len (drop span.trivia text)
 
 -- the items that stand one behind the other
 abbrev pub items_at : List Span → List ℕ → List Item
 items_at [] text = []
-items_at (span ∷ spans) text = item_at span text ∷ items_at spans (behind span text)
+items_at (span ∷ spans) text = item_at span text ∷ items_at spans (past_span span text)
 
 -- what is behind all of them
-abbrev pub behind_all : List Span → List ℕ → List ℕ
-behind_all [] text = text
-behind_all (span ∷ spans) text = behind_all spans (behind span text)
+abbrev pub past_spans : List Span → List ℕ → List ℕ
+past_spans [] text = text
+past_spans (span ∷ spans) text = past_spans spans (past_span span text)
 
 -- all of them stand within the characters
 abbrev pub AreWithin : List Span → List ℕ → Type 0
 AreWithin [] text = ⊤
-AreWithin (span ∷ spans) text = (span.trivia ≤ length text) × (span.taken.len ≤ length (drop span.trivia text)) × AreWithin spans (behind span text)
+AreWithin (span ∷ spans) text = (span.trivia ≤ length text) × (span.taken.len ≤ length (drop span.trivia text)) × AreWithin spans (past_span span text)

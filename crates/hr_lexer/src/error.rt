@@ -1,3 +1,6 @@
+ghost use Rattle.std.specs.Prelude.{◌≡◌};
+ghost use Rattle.hr_lexer.specs.Shown.{place_of, refusal_number};
+
 use std::alloc::AllocError;
 use thiserror::Error;
 
@@ -22,4 +25,34 @@ pub enum LexError {
     /// There was no memory.
     #[error("out of memory")]
     Memory(AllocError),
+}
+
+impl LexError {
+    /// The number by which the refusal is shown; none for want of memory.
+    pub fn number(&self) -> Option<u32>
+        ensures { result ≡ refusal_number self.now }
+    {
+        match self {
+            LexError::BadUtf8 { .. } => Some(1),
+            LexError::BadLexeme { .. } => Some(2),
+            LexError::OpenComment { .. } => Some(3),
+            LexError::LiteralTooWide { .. } => Some(4),
+            LexError::TooLong => Some(5),
+            LexError::Memory(_) => None,
+        }
+    }
+
+    /// Its place; none where the whole text is refused, and for want of memory.
+    pub fn place(&self) -> Option<usize>
+        ensures { result ≡ place_of self.now }
+    {
+        match self {
+            LexError::BadUtf8 { place } => Some(*place),
+            LexError::BadLexeme { place } => Some(*place),
+            LexError::OpenComment { place } => Some(*place),
+            LexError::LiteralTooWide { place } => Some(*place),
+            LexError::TooLong => None,
+            LexError::Memory(_) => None,
+        }
+    }
 }

@@ -6,9 +6,9 @@ ghost use Rattle.hr_rules.specs.Lexing.{Lexes};
 ghost use Rattle.hr_base.specs.Limits.{module_limit};
 ghost use Rattle.hr_base.specs.declared.lexeme.Items.{Items};
 ghost use Rattle.hr_lexer.specs.declared.error.LexError.{LexError};
-ghost use Rattle.hr_lexer.specs.Refusals.{cause_of, IsCause, IsHalt, IsStop, OrMemory, Reads, Refuses};
+ghost use Rattle.hr_lexer.specs.Refusals.{cause_of, IsCause, IsHalt, IsStop, OrMemory, GivesItems, Refuses};
 ghost use Rattle.hr_lexer.specs.Marks.{mark_count};
-ghost use Rattle.hr_lexer.specs.Spans.{behind_all, items_at, AreWithin};
+ghost use Rattle.hr_lexer.specs.Spans.{past_spans, items_at, AreWithin};
 ghost use Rattle.hr_lexer.specs.LexemeReader.{lexeme_at, special_at};
 
 use crate::LexError;
@@ -29,7 +29,7 @@ pub fn lex(alloc: Global, bytes: &[u8]) -> Result<Items, LexError>
     ensures read { IfOk result (λ items. LexesText bytes.now items) }
     ensures refused { IfErr result (OrMemory (IsCause bytes.now)) }
     ensures exact { (error : LexError) → IsCause bytes.now error → Refuses error result }
-    ensures whole { (items : Items) → LexesText bytes.now items → length bytes.now ≤ module_limit → Reads items result }
+    ensures whole { (items : Items) → LexesText bytes.now items → length bytes.now ≤ module_limit → GivesItems items result }
 {
     if bytes.len() > MODULE_LIMIT {
         return Err(LexError::TooLong);
@@ -114,7 +114,7 @@ fn read_items(alloc: Global, len: usize, source: Source) -> Result<Items, LexErr
 fn spans(alloc: Global, len: usize, characters: &[char]) -> Result<Vec<Span>, LexError>
     requires scalars { all_scalars characters.now ≡ true }
     requires len { length (encode_utf8_all characters.now) ≤ len }
-    ensures read { IfOk result (λ spans. Lexes class_of is_piece bars (encode_utf8_all characters.now) (items_at spans.items characters.now) (encode_utf8_all (behind_all spans.items characters.now))) }
+    ensures read { IfOk result (λ spans. Lexes class_of is_piece bars (encode_utf8_all characters.now) (items_at spans.items characters.now) (encode_utf8_all (past_spans spans.items characters.now))) }
     ensures within { IfOk result (λ spans. AreWithin spans.items characters.now) }
     ensures refused { IfErr result (λ error. IsHalt len (encode_utf8_all characters.now) error) }
 {

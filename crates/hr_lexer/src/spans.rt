@@ -1,7 +1,7 @@
 //! Where the items of a text stand, and the items that stand there.
 ghost use Rattle.std.specs.Prelude.{◌≡◌, ◌++◌, ◌∷◌, [], IfOk};
 ghost use Rattle.std.specs.Str.{encode_utf8_all};
-ghost use Rattle.hr_lexer.specs.Spans.{behind_all, items_at, AreWithin};
+ghost use Rattle.hr_lexer.specs.Spans.{past_spans, items_at, AreWithin};
 
 use crate::source::{Source, split};
 use crate::taken::Taken;
@@ -20,7 +20,7 @@ pub fn items_at(alloc: Global, source: Source, spans: &[Span]) -> Result<Items, 
     requires spelled { source.bytes.now ≡ encode_utf8_all source.characters.now }
     requires within { AreWithin spans.now source.characters.now }
     ensures list { IfOk result (λ items. items.list ≡ items_at spans.now source.entry.characters.now) }
-    ensures tail { IfOk result (λ items. items.tail ≡ encode_utf8_all (behind_all spans.now source.entry.characters.now)) }
+    ensures tail { IfOk result (λ items. items.tail ≡ encode_utf8_all (past_spans spans.now source.entry.characters.now)) }
 {
     let mut list = Vec::with_capacity(alloc, spans.len())?;
     let mut left = source;

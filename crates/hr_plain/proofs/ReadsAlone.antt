@@ -6,7 +6,7 @@ use Rattle.std.proofs.lemmas.List.Sums.{prefix_len-le-length}
 use Rattle.hr_base.specs.declared.lexeme.Class.{Class}
 use Rattle.hr_rules.specs.Letters.{is_in_name}
 use Rattle.hr_rules.specs.Numbers.{is_decimal, is_octal, is_hexadecimal, is_e, is_x, is_o}
-use Rattle.hr_rules.specs.Runs.{stops}
+use Rattle.hr_rules.specs.Runs.{ends_run}
 use Rattle.hr_rules.proofs.Apart.{not_true}
 use Rattle.hr_lexer.specs.declared.numbers.Digits.{Digits}
 use Rattle.hr_lexer.specs.declared.taken.Taken.{Taken}
@@ -30,12 +30,12 @@ pub data Quiet : List ℕ → Type 0 where
   nothing : Quiet []
   something : (c : ℕ) (rest : List ℕ) → IsQuiet c → signed_len (c ∷ rest) ≡ 0 → Quiet (c ∷ rest)
 
-pub quiet_stops : (p : ℕ → Bool) (text : List ℕ) → Quiet text → ((c : ℕ) → IsQuiet c → p c ≡ false) → stops p text ≡ true
+pub quiet_stops : (p : ℕ → Bool) (text : List ℕ) → Quiet text → ((c : ℕ) → IsQuiet c → p c ≡ false) → ends_run p text ≡ true
 quiet_stops p [] nothing f = refl
 quiet_stops p (_ ∷ _) (something c rest k e) f = ap not (f c k)
 
 -- runs end where they end alone
-pub run_alone : (p : ℕ → Bool) (text after : List ℕ) → stops p after ≡ true → prefix_len p (text ++ after) ≡ prefix_len p text
+pub run_alone : (p : ℕ → Bool) (text after : List ℕ) → ends_run p after ≡ true → prefix_len p (text ++ after) ≡ prefix_len p text
 run_alone p [] [] e = refl
 run_alone p [] (c ∷ after) e = no_run p c after (not_true (p c) e)
 run_alone p (d ∷ text) after e = ap (λ n. cond (p d) (1 + n) 0) (run_alone p text after e)

@@ -3,7 +3,7 @@ use Rattle.std.proofs.Common.{◌≡◌, ℕ, Bool, true, false, cond, ◌&&◌,
 use Rattle.hr_base.specs.declared.lexeme.Class.{Class}
 use Rattle.hr_rules.specs.declared.character.Kind.{Kind}
 use Rattle.hr_rules.specs.Letters.{kind_of, is_in_name, is_symbol}
-use Rattle.hr_rules.specs.Runs.{is_run, stops, begins_with}
+use Rattle.hr_rules.specs.Runs.{is_run, ends_run, begins_with}
 use Rattle.hr_rules.specs.Names.{is_reserved_word, small_class}
 use Rattle.hr_rules.specs.Operators.{is_dashes, is_reserved_operator}
 use Rattle.hr_rules.specs.Qualified.{qualified, name_class, conid_class}
@@ -89,7 +89,7 @@ conid_more false true x y p q = q
 conid_more false false x y p q = refl
 
 conid : (rest after : List ℕ) → may_be Kind.Large (conid_class rest after) ≡ true
-conid [] after = conid_end (stops is_in_name after)
+conid [] after = conid_end (ends_run is_in_name after)
 conid (c ∷ rest) after =
     conid_more (is_in_name c) (c == 46) (conid_class rest after) (qualified (name_class rest after)) (conid rest after) (of_qualified (name_class rest after))
 

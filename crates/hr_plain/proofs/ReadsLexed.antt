@@ -12,7 +12,7 @@ use Rattle.hr_base.specs.declared.lexeme.Item.{Item}
 use Rattle.hr_base.specs.declared.lexeme.Items.{Items}
 use Rattle.hr_rules.specs.declared.character.Kind.{Kind}
 use Rattle.hr_rules.specs.Letters.{kind_of, is_in_name}
-use Rattle.hr_rules.specs.Runs.{stops}
+use Rattle.hr_rules.specs.Runs.{ends_run}
 use Rattle.hr_rules.specs.Lexemes.{class_of, is_piece, bars, byte_order_mark, mark_len, led_by, LexesText}
 use Rattle.hr_rules.specs.Lexing.{Trivia, Fits, Lexes, joined}
 use Rattle.hr_rules.specs.Lexing.Lexes.{ends, goes}
@@ -95,7 +95,7 @@ class_is : {class other : Class} (x rest : List ℕ) → Fits class_of bars clas
 class_is x rest fits e = fits.is ∙ ap Some e
 
 quiet_ahead : (t : List ℕ) (item : Item) (rest : List ℕ) → Trivia is_piece t (item.lexeme.text ++ rest) → is_plain_trivia t ≡ true → IsPlainLexeme item
-    → Fits class_of bars item.lexeme.class item.lexeme.text rest → stops is_in_name (chars (t ++ (item.lexeme.text ++ rest))) ≡ true → Quiet (chars (t ++ (item.lexeme.text ++ rest)))
+    → Fits class_of bars item.lexeme.class item.lexeme.text rest → ends_run is_in_name (chars (t ++ (item.lexeme.text ++ rest))) ≡ true → Quiet (chars (t ++ (item.lexeme.text ++ rest)))
 quiet_ahead (c ∷ t) item rest is plain lexeme fits stop = quiet_trivia is plain some
   where
     some : (c ∷ t) ≢ []
@@ -114,7 +114,7 @@ quiet_end (c ∷ tail) is plain = subst (λ l. Quiet (chars l)) (append-nil (c �
     some : (c ∷ tail) ≢ []
     some e = cc
 
-pub ahead : (items : List Item) (tail : List ℕ) → Lexed items tail → ArePlain items → is_plain_trivia tail ≡ true → stops is_in_name (chars (joined items tail)) ≡ true → Quiet (chars (joined items tail))
+pub ahead : (items : List Item) (tail : List ℕ) → Lexed items tail → ArePlain items → is_plain_trivia tail ≡ true → ends_run is_in_name (chars (joined items tail)) ≡ true → Quiet (chars (joined items tail))
 ahead [] tail l p plain stop = quiet_end tail l plain
 ahead (item ∷ items) tail l p plain stop = quiet_ahead item.trivia item (joined items tail) l.0 p.0.trivia p.0.lexeme l.1.0 stop
 

@@ -7,7 +7,7 @@ use Rattle.hr_base.specs.declared.lexeme.Class.{Class}
 use Rattle.hr_base.specs.declared.lexeme.Item.{Item}
 use Rattle.hr_base.specs.declared.lexeme.Items.{Items}
 use Rattle.hr_rules.specs.Letters.{kind_of, is_in_name, is_symbol}
-use Rattle.hr_rules.specs.Runs.{stops}
+use Rattle.hr_rules.specs.Runs.{ends_run}
 use Rattle.hr_rules.specs.Lexemes.{class_of, is_piece, bars, led_by}
 use Rattle.hr_rules.specs.Lexing.{Trivia, Fits, joined}
 use Rattle.hr_lexer.specs.Words.{AreApart, IsVarId}
@@ -33,8 +33,8 @@ OnlyVariables (mark ∷ marks) (item ∷ items) = (mark ≡ true → item.lexeme
 -- behind a lexeme of this text one text stands for another: whether names and operators go on stays, and an
 -- integer that is read stays one
 pub record Link (w rest other : List ℕ) : Type 0 where
-  pub names : stops is_in_name (chars rest) ≡ true → stops is_in_name (chars other) ≡ true
-  pub symbols : stops is_symbol (chars rest) ≡ true → stops is_symbol (chars other) ≡ true
+  pub names : ends_run is_in_name (chars rest) ≡ true → ends_run is_in_name (chars other) ≡ true
+  pub symbols : ends_run is_symbol (chars rest) ≡ true → ends_run is_symbol (chars other) ≡ true
   pub numbers : Fits class_of bars Class.Integer w rest → Fits class_of bars Class.Integer w other
 
 -- both begin alike, and no number goes on into the other
@@ -55,7 +55,7 @@ behind_trivia w c t a b is plain v =
 
 -- behind the lexeme no number goes on, unless a name does
 abbrev Ahead : List ℕ → Type 0
-Ahead rest = stops is_in_name (chars rest) ≡ true → Quiet (chars rest)
+Ahead rest = ends_run is_in_name (chars rest) ≡ true → Quiet (chars rest)
 
 class_is : {class other : Class} (x rest : List ℕ) → Fits class_of bars class x rest → class ≡ other → class_of x rest ≡ Some other
 class_is x rest fits e = fits.is ∙ ap Some e
@@ -126,8 +126,8 @@ no_symbol : is_symbol 32 ≡ false
 unfolding kind_of
 no_symbol = refl
 
-blank_no_symbol : (rest : List ℕ) → stops is_symbol (chars (32 ∷ rest)) ≡ true
-blank_no_symbol rest = ap (stops is_symbol) (byte_first 32 rest space_byte) ∙ ap not no_symbol
+blank_no_symbol : (rest : List ℕ) → ends_run is_symbol (chars (32 ∷ rest)) ≡ true
+blank_no_symbol rest = ap (ends_run is_symbol) (byte_first 32 rest space_byte) ∙ ap not no_symbol
 
 changes : (w new t t' x a b : List ℕ) → IsVarId new → w ≢ [] → IsParted new w t t' → class_of x a ≡ Some Class.VarId → Trivia is_piece t' (new ++ b) → is_plain_trivia t' ≡ true
     → Fits class_of bars Class.VarId new b → Ahead b → IsUtf8 b → Link w (t ++ (x ++ a)) (t' ++ (new ++ b))

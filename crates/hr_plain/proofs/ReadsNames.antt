@@ -10,7 +10,7 @@ use Rattle.hr_rules.specs.declared.character.Kind.{Kind}
 use Rattle.hr_rules.specs.Letters.{kind_of, continues_name, is_symbol_kind, is_in_name, is_symbol}
 use Rattle.hr_rules.specs.Names.{word_class}
 use Rattle.hr_rules.specs.Operators.{is_dashes, run_class}
-use Rattle.hr_rules.specs.Runs.{is_run, stops}
+use Rattle.hr_rules.specs.Runs.{is_run, ends_run}
 use Rattle.hr_rules.specs.Lexemes.{spelled_class, spelled_class_by, class_of, bars}
 use Rattle.hr_rules.specs.Lexing.{Fits}
 use Rattle.hr_rules.proofs.Apart.{both_left, both_right}
@@ -29,7 +29,7 @@ record WordParts (w prior : List ℕ) : Type 0 where
   utf8 : IsUtf8 w
   word : Word (chars w) (chars prior)
   all : list_all is_in_name word.behind ≡ true
-  stop : stops is_in_name (chars prior) ≡ true
+  stop : ends_run is_in_name (chars prior) ≡ true
   class : word_class (word.first ∷ word.behind) ≡ Class.VarId
 
 parts_of : (w prior : List ℕ) → class_of w prior ≡ Some Class.VarId → WordParts w prior
@@ -40,17 +40,17 @@ parts_of w prior e =
     record {
       utf8 = s.front;
       word = word;
-      all = both_left (list_all is_in_name word.behind) (stops is_in_name (chars prior)) parts.0;
-      stop = both_right (list_all is_in_name word.behind) (stops is_in_name (chars prior)) parts.0;
+      all = both_left (list_all is_in_name word.behind) (ends_run is_in_name (chars prior)) parts.0;
+      stop = both_right (list_all is_in_name word.behind) (ends_run is_in_name (chars prior)) parts.0;
       class = parts.1;
     }
 
 -- no name goes on behind a variable identifier
-pub word_stops : (w rest : List ℕ) → class_of w rest ≡ Some Class.VarId → stops is_in_name (chars rest) ≡ true
+pub word_stops : (w rest : List ℕ) → class_of w rest ≡ Some Class.VarId → ends_run is_in_name (chars rest) ≡ true
 word_stops w rest e = (parts_of w rest e).stop
 
 -- what is one anywhere is one where no name goes on
-pub word_fits : (w prior other : List ℕ) → class_of w prior ≡ Some Class.VarId → IsUtf8 other → stops is_in_name (chars other) ≡ true → Fits class_of bars Class.VarId w other
+pub word_fits : (w prior other : List ℕ) → class_of w prior ≡ Some Class.VarId → IsUtf8 other → ends_run is_in_name (chars other) ≡ true → Fits class_of bars Class.VarId w other
 word_fits w prior other e v stop =
     let parts : WordParts w prior = parts_of w prior e in
     let c : ℕ = parts.word.first in
@@ -69,19 +69,19 @@ word_fits w prior other e v stop =
     fits_read Class.VarId w other parts.utf8 v read
 
 -- how a text goes on where names and integers begin
-pub word_begins : (x prior rest : List ℕ) → class_of x prior ≡ Some Class.VarId → (stops is_in_name (chars (x ++ rest)) ≡ false) × (stops is_symbol (chars (x ++ rest)) ≡ true)
+pub word_begins : (x prior rest : List ℕ) → class_of x prior ≡ Some Class.VarId → (ends_run is_in_name (chars (x ++ rest)) ≡ false) × (ends_run is_symbol (chars (x ++ rest)) ≡ true)
 word_begins x prior rest e =
     let parts : WordParts x prior = parts_of x prior e in
     let all : chars (x ++ rest) ≡ parts.word.first ∷ (parts.word.behind ++ chars rest) = chars-append x rest parts.utf8 ∙ ap (λ l. l ++ chars rest) parts.word.is in (
-      ap (stops is_in_name) all ∙ ap (λ k. not (continues_name k)) parts.word.kind,
-      ap (stops is_symbol) all ∙ ap (λ k. not (is_symbol_kind k)) parts.word.kind,
+      ap (ends_run is_in_name) all ∙ ap (λ k. not (continues_name k)) parts.word.kind,
+      ap (ends_run is_symbol) all ∙ ap (λ k. not (is_symbol_kind k)) parts.word.kind,
     )
 
-pub number_begins : (x prior rest : List ℕ) → class_of x prior ≡ Some Class.Integer → stops is_in_name (chars (x ++ rest)) ≡ false
+pub number_begins : (x prior rest : List ℕ) → class_of x prior ≡ Some Class.Integer → ends_run is_in_name (chars (x ++ rest)) ≡ false
 number_begins x prior rest e =
     let s : Spelled Class.Integer x prior = spelled Class.Integer x prior e in
     let number : Number (chars x) = number_of (chars x) (chars prior) s.is in
-    ap (stops is_in_name) (chars-append x rest s.front ∙ ap (λ l. l ++ chars rest) number.is) ∙ ap (λ k. not (continues_name k)) number.kind
+    ap (ends_run is_in_name) (chars-append x rest s.front ∙ ap (λ l. l ++ chars rest) number.is) ∙ ap (λ k. not (continues_name k)) number.kind
 
 -- characters of one byte
 pub record IsByte (c : ℕ) : Type 0 where
@@ -157,7 +157,7 @@ equals_kind : kind_of 61 ≡ Kind.Symbol
 unfolding kind_of
 equals_kind = refl
 
-equals_at : (rest : List ℕ) → stops is_symbol rest ≡ true → lexeme_at (61 ∷ rest) ≡ Some (record { class = run_class (61 ∷ []); len = 1 })
+equals_at : (rest : List ℕ) → ends_run is_symbol rest ≡ true → lexeme_at (61 ∷ rest) ≡ Some (record { class = run_class (61 ∷ []); len = 1 })
 equals_at rest stop =
     let len : prefix_len is_symbol (61 ∷ rest) ≡ 1 = one_more is_symbol 61 rest equals_symbol ∙ ap suc (run_len is_symbol [] rest refl stop) in
     ap (λ k. lexeme_at_by k 61 rest) equals_kind
@@ -168,15 +168,15 @@ symbol_parts : (b : Bool) (x : Class) (class : Class) → cond b (Some x) None �
 symbol_parts true x class e = refl
 symbol_parts false x class e = absurd (none_some e)
 
-equals_stops : (class : Class) (rest : List ℕ) → class_of (61 ∷ []) rest ≡ Some class → stops is_symbol (chars rest) ≡ true
+equals_stops : (class : Class) (rest : List ℕ) → class_of (61 ∷ []) rest ≡ Some class → ends_run is_symbol (chars rest) ≡ true
 equals_stops class rest e =
     let s : Spelled class (61 ∷ []) rest = spelled class (61 ∷ []) rest e in
     let is : spelled_class_by Kind.Symbol 61 [] (chars rest) ≡ Some class =
     sym (ap (λ l. spelled_class l (chars rest)) (byte_alone 61 equals_byte) ∙ ap (λ k. spelled_class_by k 61 [] (chars rest)) equals_kind) ∙ s.is in
-    both_left (stops is_symbol (chars rest)) (not (is_dashes (61 ∷ []))) (symbol_parts (stops is_symbol (chars rest) && not (is_dashes (61 ∷ []))) (run_class (61 ∷ [])) class is)
+    both_left (ends_run is_symbol (chars rest)) (not (is_dashes (61 ∷ []))) (symbol_parts (ends_run is_symbol (chars rest) && not (is_dashes (61 ∷ []))) (run_class (61 ∷ [])) class is)
 
 pub equals_fits : (class : Class) (rest other : List ℕ) → Fits class_of bars class (61 ∷ []) rest → IsUtf8 other
-    → (stops is_symbol (chars rest) ≡ true → stops is_symbol (chars other) ≡ true) → Fits class_of bars class (61 ∷ []) other
+    → (ends_run is_symbol (chars rest) ≡ true → ends_run is_symbol (chars other) ≡ true) → Fits class_of bars class (61 ∷ []) other
 equals_fits class rest other f v keeps =
-    let stop : stops is_symbol (chars rest) ≡ true = equals_stops class rest f.is in
+    let stop : ends_run is_symbol (chars rest) ≡ true = equals_stops class rest f.is in
     alike class 61 rest other f v (one 61 (chars rest) equals_byte ∙ (equals_at (chars rest) stop ∙ (sym (equals_at (chars other) (keeps stop)) ∙ sym (one 61 (chars other) equals_byte))))

@@ -11,7 +11,7 @@ use Rattle.hr_base.specs.declared.lexeme.Class.{Class}
 use Rattle.hr_rules.specs.Numbers.{greatest_integer, is_decimal, is_octal, is_hexadecimal, is_digits, is_x, is_o, value_of, integer_value, integer_class, ends_float, begins_float, longest_value, is_too_wide}
 use Rattle.hr_rules.specs.Lexemes.{spelled_class, spelled_class_by, spelled_bars, spelled_bars_by, class_of, bars}
 use Rattle.hr_rules.specs.Lexing.{Fits}
-use Rattle.hr_rules.specs.Runs.{stops}
+use Rattle.hr_rules.specs.Runs.{ends_run}
 use Rattle.hr_rules.proofs.Apart.{both, both_left, both_right, and_false}
 use Rattle.hr_rules.proofs.Digits.{digit_decimal}
 use Rattle.hr_lexer.specs.declared.numbers.Digits.{Digits}
@@ -214,7 +214,7 @@ large_o text n e f =
 octal : (m : ℕ) → is_o m ≡ true → Octal m
 octal m e = of_two Octal m 111 79 small_o large_o (m == 111) (m == 79) refl refl e
 
-octal_read : (c m : ℕ) (front after : List ℕ) → (c == 48) ≡ true → is_o m ≡ true → is_digits is_octal front ≡ true → stops is_octal after ≡ true
+octal_read : (c m : ℕ) (front after : List ℕ) → (c == 48) ≡ true → is_o m ≡ true → is_digits is_octal front ≡ true → ends_run is_octal after ≡ true
     → number_at (c ∷ m ∷ (front ++ after)) ≡ cond (is_wide 8 front) None (Some (record { class = Class.Integer; len = 2 + length front }))
 octal_read c m [] after z o all stop = absurd (true≢false (sym all))
 octal_read c m (a ∷ front) after z o all stop =

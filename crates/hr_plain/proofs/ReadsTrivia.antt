@@ -9,7 +9,7 @@ use Rattle.hr_rules.specs.declared.character.Kind.{Kind}
 use Rattle.hr_rules.specs.Letters.{kind_of, is_newline}
 use Rattle.hr_rules.specs.Operators.{is_dash}
 use Rattle.hr_rules.specs.Comments.{goes_on, begins_line_comment, is_in_line, is_line_comment}
-use Rattle.hr_rules.specs.Runs.{is_run, stops}
+use Rattle.hr_rules.specs.Runs.{is_run, ends_run}
 use Rattle.hr_rules.specs.Lexemes.{spelled_piece, spelled_piece_by, spelled_bars, spelled_bars_by, are_utf8, class_of, is_piece, bars}
 use Rattle.hr_rules.specs.Lexing.{Trivia, Fits}
 use Rattle.hr_rules.specs.Lexing.Trivia.{none, more}
@@ -26,26 +26,26 @@ trivia_utf8 (none a) = IsUtf8-nil
 trivia_utf8 (more piece t a is rest) = IsUtf8-append piece t (piece_text piece (t ++ a) is) (trivia_utf8 rest)
 
 -- what is left begins as the first part does
-begin_alike : (p : ℕ → Bool) (cs xs ys : List ℕ) → cs ≢ [] → stops p (cs ++ xs) ≡ stops p (cs ++ ys)
+begin_alike : (p : ℕ → Bool) (cs xs ys : List ℕ) → cs ≢ [] → ends_run p (cs ++ xs) ≡ ends_run p (cs ++ ys)
 begin_alike p [] xs ys some = absurd (some refl)
 begin_alike p (c ∷ cs) xs ys some = refl
 
 chars_some : (t : List ℕ) → IsUtf8 t → t ≢ [] → chars t ≢ []
 chars_some t u some e = some (sym (encodes-chars t u) ∙ ap encodes e)
 
-pub same_begin : (p : ℕ → Bool) (t a b : List ℕ) → IsUtf8 t → t ≢ [] → stops p (chars (t ++ a)) ≡ stops p (chars (t ++ b))
+pub same_begin : (p : ℕ → Bool) (t a b : List ℕ) → IsUtf8 t → t ≢ [] → ends_run p (chars (t ++ a)) ≡ ends_run p (chars (t ++ b))
 same_begin p t a b u some =
-    ap (stops p) (chars-append t a u) ∙ (begin_alike p (chars t) (chars a) (chars b) (chars_some t u some) ∙ ap (stops p) (sym (chars-append t b u)))
+    ap (ends_run p) (chars-append t a u) ∙ (begin_alike p (chars t) (chars a) (chars b) (chars_some t u some) ∙ ap (ends_run p) (sym (chars-append t b u)))
 
 -- a piece, before another text
-line_kept : (text after other : List ℕ) → is_line_comment text after ≡ true → (stops is_in_line after ≡ true → stops is_in_line other ≡ true) → is_line_comment text other ≡ true
+line_kept : (text after other : List ℕ) → is_line_comment text after ≡ true → (ends_run is_in_line after ≡ true → ends_run is_in_line other ≡ true) → is_line_comment text other ≡ true
 line_kept text after other e keeps =
     let run : is_run is_in_line text after ≡ true = both_right (begins_line_comment text) (is_run is_in_line text after) e in
     both (begins_line_comment text) (is_run is_in_line text other) (both_left (begins_line_comment text) (is_run is_in_line text after) e)
-    (both (list_all is_in_line text) (stops is_in_line other) (both_left (list_all is_in_line text) (stops is_in_line after) run)
-    (keeps (both_right (list_all is_in_line text) (stops is_in_line after) run)))
+    (both (list_all is_in_line text) (ends_run is_in_line other) (both_left (list_all is_in_line text) (ends_run is_in_line after) run)
+    (keeps (both_right (list_all is_in_line text) (ends_run is_in_line after) run)))
 
-piece_by : (kind : Kind) (c : ℕ) (rest after other : List ℕ) → spelled_piece_by kind c rest after ≡ true → (stops is_in_line after ≡ true → stops is_in_line other ≡ true) → spelled_piece_by kind c rest other ≡ true
+piece_by : (kind : Kind) (c : ℕ) (rest after other : List ℕ) → spelled_piece_by kind c rest after ≡ true → (ends_run is_in_line after ≡ true → ends_run is_in_line other ≡ true) → spelled_piece_by kind c rest other ≡ true
 piece_by Kind.Blank c rest after other e keeps = e
 piece_by Kind.Newline c rest after other e keeps = e
 piece_by Kind.Symbol c rest after other e keeps = line_kept (c ∷ rest) after other e keeps
@@ -58,24 +58,24 @@ piece_by Kind.Quote c rest after other e keeps = e
 piece_by Kind.DoubleQuote c rest after other e keeps = e
 piece_by Kind.Other c rest after other e keeps = e
 
-piece_kept : (cs after other : List ℕ) → spelled_piece cs after ≡ true → (stops is_in_line after ≡ true → stops is_in_line other ≡ true) → spelled_piece cs other ≡ true
+piece_kept : (cs after other : List ℕ) → spelled_piece cs after ≡ true → (ends_run is_in_line after ≡ true → ends_run is_in_line other ≡ true) → spelled_piece cs other ≡ true
 piece_kept [] after other e keeps = e
 piece_kept (c ∷ rest) after other e keeps = piece_by (kind_of c) c rest after other e keeps
 
-piece_moved : (piece after other : List ℕ) → is_piece piece after ≡ true → IsUtf8 other → (stops is_in_line (chars after) ≡ true → stops is_in_line (chars other) ≡ true) → is_piece piece other ≡ true
+piece_moved : (piece after other : List ℕ) → is_piece piece after ≡ true → IsUtf8 other → (ends_run is_in_line (chars after) ≡ true → ends_run is_in_line (chars other) ≡ true) → is_piece piece other ≡ true
 unfolding is_piece
 piece_moved piece after other e v keeps =
     let are : are_utf8 piece other ≡ true = both (is_utf8 piece) (is_utf8 other) (is_utf8-from_IsUtf8 piece (piece_text piece after e)) (is_utf8-from_IsUtf8 other v) in
     both (are_utf8 piece other) (spelled_piece (chars piece) (chars other)) are (piece_kept (chars piece) (chars after) (chars other) (piece_spelled piece after e) keeps)
 
-seam : (t a b : List ℕ) → IsUtf8 t → (stops is_in_line (chars a) ≡ true → stops is_in_line (chars b) ≡ true) → stops is_in_line (chars (t ++ a)) ≡ true → stops is_in_line (chars (t ++ b)) ≡ true
+seam : (t a b : List ℕ) → IsUtf8 t → (ends_run is_in_line (chars a) ≡ true → ends_run is_in_line (chars b) ≡ true) → ends_run is_in_line (chars (t ++ a)) ≡ true → ends_run is_in_line (chars (t ++ b)) ≡ true
 seam [] a b u keeps = keeps
 seam (c ∷ t) a b u keeps = λ e. sym (same_begin is_in_line (c ∷ t) a b u some) ∙ e
   where
     some : (c ∷ t) ≢ []
     some e = cc
 
-trivia_moved : {t a : List ℕ} → Trivia is_piece t a → (b : List ℕ) → IsUtf8 b → (stops is_in_line (chars a) ≡ true → stops is_in_line (chars b) ≡ true) → Trivia is_piece t b
+trivia_moved : {t a : List ℕ} → Trivia is_piece t a → (b : List ℕ) → IsUtf8 b → (ends_run is_in_line (chars a) ≡ true → ends_run is_in_line (chars b) ≡ true) → Trivia is_piece t b
 trivia_moved (none a) b v keeps = none b
 trivia_moved (more piece t a is rest) b v keeps =
     let u : IsUtf8 t = trivia_utf8 rest in
@@ -99,7 +99,7 @@ no_newline : (c : ℕ) (rest : List ℕ) → spelled_bars (c ∷ rest) ≡ false
 no_newline c rest free true e f = true≢false (sym (ap (λ k. spelled_bars_by k c rest) (newline_kind c e)) ∙ free)
 no_newline c rest free false e f = true≢false (sym f)
 
-no_line : (cs : List ℕ) → spelled_bars cs ≡ false → cs ≢ [] → stops is_in_line cs ≡ true → ⊥
+no_line : (cs : List ℕ) → spelled_bars cs ≡ false → cs ≢ [] → ends_run is_in_line cs ≡ true → ⊥
 no_line [] free some e = some refl
 no_line (c ∷ rest) free some e = no_newline c rest free (is_newline c) refl e
 

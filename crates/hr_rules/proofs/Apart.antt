@@ -8,10 +8,10 @@ use lib.Utf8.{encodes}
 use Rattle.hr_rules.specs.declared.character.Kind.{Kind}
 use Rattle.hr_rules.specs.Letters.{kind_of, is_newline, is_symbol}
 use Rattle.hr_rules.specs.Operators.{is_dash}
-use Rattle.hr_rules.specs.Runs.{is_run, stops, begins_with}
-use Rattle.hr_rules.specs.Comments.{goes_on, begins_line_comment, is_in_line, is_line_comment, is_nested_comment, opens, shuts, shut, closed_len, ends_there}
+use Rattle.hr_rules.specs.Runs.{is_run, ends_run}
+use Rattle.hr_rules.specs.Comments.{goes_on, begins_line_comment, is_in_line, is_nested_comment, opens, shuts, shut, closed_len, ends_there}
 use Rattle.hr_rules.specs.Lexemes.{is_empty, spelled_class, spelled_piece, spelled_piece_by, spelled_bars, spelled_bars_by, are_utf8, class_of, is_piece, bars}
-use Rattle.hr_rules.specs.Lexing.{AreApart}
+use Rattle.hr_rules.specs.Lexing.{KeepApart}
 use Rattle.hr_rules.proofs.Lexing.{same_front}
 
 pub both_left : (a b : Bool) → (a && b) ≡ true → a ≡ true
@@ -40,22 +40,22 @@ is_eq a b e = grind arith
 pub one_run : (p : ℕ → Bool) (x a y b : List ℕ) → is_run p x a ≡ true → is_run p y b ≡ true → x ++ a ≡ y ++ b → x ≡ y
 one_run p [] a [] b f g e = refl
 one_run p [] a (d ∷ y) b f g e =
-    let stop : not (p d) ≡ true = subst (λ z. stops p z ≡ true) e f in
-    let goes : p d ≡ true = both_left (p d) (list_all p y) (both_left (list_all p (d ∷ y)) (stops p b) g) in
+    let stop : not (p d) ≡ true = subst (λ z. ends_run p z ≡ true) e f in
+    let goes : p d ≡ true = both_left (p d) (list_all p y) (both_left (list_all p (d ∷ y)) (ends_run p b) g) in
     absurd (true≢false (sym goes ∙ not_true (p d) stop))
 one_run p (c ∷ x) a [] b f g e =
-    let stop : not (p c) ≡ true = subst (λ z. stops p z ≡ true) (sym e) g in
-    let goes : p c ≡ true = both_left (p c) (list_all p x) (both_left (list_all p (c ∷ x)) (stops p a) f) in
+    let stop : not (p c) ≡ true = subst (λ z. ends_run p z ≡ true) (sym e) g in
+    let goes : p c ≡ true = both_left (p c) (list_all p x) (both_left (list_all p (c ∷ x)) (ends_run p a) f) in
     absurd (true≢false (sym goes ∙ not_true (p c) stop))
 one_run p (c ∷ x) a (d ∷ y) b f g e =
     let head : c ≡ d = cc in
     let tail : x ++ a ≡ y ++ b = cc in
-    let f' : is_run p x a ≡ true = both (list_all p x) (stops p a)
-    (both_right (p c) (list_all p x) (both_left (list_all p (c ∷ x)) (stops p a) f))
-    (both_right (list_all p (c ∷ x)) (stops p a) f) in
-    let g' : is_run p y b ≡ true = both (list_all p y) (stops p b)
-    (both_right (p d) (list_all p y) (both_left (list_all p (d ∷ y)) (stops p b) g))
-    (both_right (list_all p (d ∷ y)) (stops p b) g) in
+    let f' : is_run p x a ≡ true = both (list_all p x) (ends_run p a)
+    (both_right (p c) (list_all p x) (both_left (list_all p (c ∷ x)) (ends_run p a) f))
+    (both_right (list_all p (c ∷ x)) (ends_run p a) f) in
+    let g' : is_run p y b ≡ true = both (list_all p y) (ends_run p b)
+    (both_right (p d) (list_all p y) (both_left (list_all p (d ∷ y)) (ends_run p b) g))
+    (both_right (list_all p (d ∷ y)) (ends_run p b) g) in
     let rest : x ≡ y = one_run p x a y b f' g' tail in
     λ k. head k ∷ rest k
 
@@ -83,12 +83,12 @@ not_not : (b : Bool) → not (not b) ≡ true → b ≡ true
 not_not true e = refl
 not_not false e = absurd (true≢false (sym e))
 
-pub goes_on_over : (rest after : List ℕ) → stops is_in_line after ≡ true → goes_on (rest ++ after) ≡ goes_on rest
+pub goes_on_over : (rest after : List ℕ) → ends_run is_in_line after ≡ true → goes_on (rest ++ after) ≡ goes_on rest
 goes_on_over [] [] e = refl
 goes_on_over [] (d ∷ after) e = not_on d after (not_not (is_newline d) e)
 goes_on_over (c ∷ rest) after e = ap (λ x. cond (is_dash c) x (is_symbol c)) (goes_on_over rest after e)
 
-pub begins_over : (text after : List ℕ) → stops is_in_line after ≡ true → begins_line_comment text ≡ true → begins_line_comment (text ++ after) ≡ true
+pub begins_over : (text after : List ℕ) → ends_run is_in_line after ≡ true → begins_line_comment text ≡ true → begins_line_comment (text ++ after) ≡ true
 begins_over [] after e is = absurd (true≢false (sym is))
 begins_over (a ∷ []) after e is = absurd (true≢false (sym is))
 begins_over (a ∷ b ∷ rest) after e is = ap (λ x. (is_dash a && is_dash b) && not x) (goes_on_over rest after e) ∙ is
@@ -205,7 +205,7 @@ bars_by Kind.Blank c x after f = refl
 bars_by Kind.Newline c x after f = refl
 bars_by Kind.Symbol c x after f =
     let run : is_run is_in_line (c ∷ x) after ≡ true = both_right (begins_line_comment (c ∷ x)) (is_run is_in_line (c ∷ x) after) f in
-    begins_over (c ∷ x) after (both_right (list_all is_in_line (c ∷ x)) (stops is_in_line after) run) (both_left (begins_line_comment (c ∷ x)) (is_run is_in_line (c ∷ x) after) f)
+    begins_over (c ∷ x) after (both_right (list_all is_in_line (c ∷ x)) (ends_run is_in_line after) run) (both_left (begins_line_comment (c ∷ x)) (is_run is_in_line (c ∷ x) after) f)
 bars_by Kind.Special c x after f = opens_over c x after f
 bars_by Kind.Small c x after f = absurd (true≢false (sym f))
 bars_by Kind.Large c x after f = absurd (true≢false (sym f))
@@ -259,7 +259,7 @@ end_bars_nothing : bars [] ≡ false
 unfolding bars
 end_bars_nothing = ap spelled_bars chars-nil
 
-pub rules_keep_apart : AreApart class_of is_piece bars
+pub rules_keep_apart : KeepApart class_of is_piece bars
 rules_keep_apart = record {
   lexeme_not_empty = nothing_empty;
   piece_not_empty = not_empty;

@@ -25,7 +25,7 @@ ends_newline-seam b [] back h =
     ap (λ t. (b == linefeed || b == form_feed) || t) (by (b == carriage_return) h)
 
 -- what is left of a part ends as the part does
-ends-drop : (n : ℕ) (bytes : List ℕ) → ends_with_return (drop n bytes) ≡ true → ends_with_return bytes ≡ true
+pub ends-drop : (n : ℕ) (bytes : List ℕ) → ends_with_return (drop n bytes) ≡ true → ends_with_return bytes ≡ true
 ends-drop zero bytes e = e
 ends-drop (suc n) [] e = e
 ends-drop (suc n) (b ∷ []) e = ends-none n b e

@@ -4,7 +4,7 @@ use Rattle.std.proofs.Math.Seq.{take-append_seam}
 use Rattle.std.proofs.lemmas.List.{append_cancel_left}
 use Rattle.hr_base.specs.declared.lexeme.Class.{Class}
 use Rattle.hr_base.specs.declared.lexeme.Item.{Item}
-use Rattle.hr_rules.specs.Lexing.{Classes, Pieces, Barriers, Trivia, Fits, Lexes, AreApart, OneLexing, LexingsJoin, joined}
+use Rattle.hr_rules.specs.Lexing.{Classes, Pieces, Barriers, Trivia, Fits, Lexes, KeepApart, OneLexing, LexingsJoin, joined}
 use Rattle.hr_rules.specs.Lexing.Trivia.{none, more}
 use Rattle.hr_rules.specs.Lexing.Lexes.{ends, goes}
 
@@ -17,7 +17,7 @@ pub no_front : (xs ys : List ℕ) → xs ++ ys ≡ [] → xs ≡ []
 no_front [] ys e = refl
 no_front (x ∷ xs) ys e = cc
 
-module _ {class_of : Classes} {is_piece : Pieces} {bars : Barriers} (laws : AreApart class_of is_piece bars) where
+module _ {class_of : Classes} {is_piece : Pieces} {bars : Barriers} (laws : KeepApart class_of is_piece bars) where
   -- a blank or comment begins where no lexeme does
   piece_at : (piece t a b : List ℕ) → is_piece piece (t ++ a) ≡ true → b ≡ (piece ++ t) ++ a → bars b ≡ true
   piece_at piece t a b is e = ap bars (e ∙ append_assoc piece t a) ∙ laws.piece_bars piece (t ++ a) is

@@ -5,6 +5,7 @@ pub mod Digits
 pub mod GoOn
 pub mod Lexing
 pub mod Margins
+pub mod PosAt
 pub mod Reading
 pub mod Spellings
 pub mod Stops

@@ -1,11 +1,25 @@
--- A word that is longer than the text doesn't begin it.
-use Rattle.std.proofs.Common.{◌≡◌, ◌<◌, ℕ, false, List, [], ◌∷◌, length, drop, refl, ◌∙◌, arith, length-drop}
+-- A text is a word where their bytes are the same.
+use Rattle.std.proofs.Common.{◌≡◌, ◌==◌, ◌&&◌, nat_eq, ℕ, suc, Bool, true, false, List, [], ◌∷◌, length, refl, ap, ◌∙◌, arith}
+use Rattle.std.specs.Cmp.Lexicographic.{pointwise}
+use Rattle.hr_rules.specs.Names.{is_spelled}
 use Rattle.hr_rules.specs.Runs.{begins_word}
 
-cut : (word text : List ℕ) → 0 < length word → length text < 1 → false ≡ begins_word word text
-cut [] text h l = absurd (omega arith)
-cut (b ∷ word) [] h l = refl
-cut (b ∷ word) (c ∷ text) h l = absurd (omega arith)
+turned : (first long rest : Bool) → first && (long && rest) ≡ long && (first && rest)
+turned true long rest = refl
+turned false true rest = refl
+turned false false rest = refl
 
-pub cut_short : (i : ℕ) (word left text : List ℕ) → i < length word → length left < 1 → begins_word (drop i word) left ≡ begins_word word text → false ≡ begins_word word text
-cut_short i word left text h l e = let some : 0 < length (drop i word) = omega (arith, length-drop i word) in cut (drop i word) left some l ∙ e
+never : (long : Bool) → false ≡ long && false
+never true = refl
+never false = refl
+
+both_longer : (m n : ℕ) → (m == n) ≡ (suc m == suc n)
+both_longer m n = grind arith
+
+pub spelled : (word text : List ℕ) → pointwise nat_eq text word ≡ is_spelled word text
+spelled [] [] = refl
+spelled [] (c ∷ text) = grind arith
+spelled (b ∷ word) [] = never (0 == length (b ∷ word))
+spelled (b ∷ word) (c ∷ text) =
+    ap (λ t. (c == b) && t) (spelled word text) ∙ turned (c == b) (length text == length word) (begins_word word text)
+    ∙ ap (λ t. t && ((c == b) && begins_word word text)) (both_longer (length text) (length word))

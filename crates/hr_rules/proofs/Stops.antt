@@ -1,13 +1,12 @@
 -- A text that stops has no items, and stops at one place.
-use Rattle.std.proofs.Common.{◌≡◌, ◌≢◌, ℕ, true, false, List, [], ◌∷◌, ◌++◌, length, drop, refl, sym, ap, ◌∙◌, append_assoc, append-nil, true≢false, Some, None}
+use Rattle.std.proofs.Common.{◌≡◌, ◌≢◌, ℕ, true, false, List, [], ◌++◌, refl, sym, ap, ◌∙◌, append_assoc, append-nil, true≢false, Some, None}
 use Rattle.std.proofs.lemmas.List.{append_cancel_left}
 use Rattle.hr_base.specs.declared.lexeme.Item.{Item}
-use Rattle.hr_base.specs.declared.lexeme.Items.{Items}
-use Rattle.hr_rules.specs.Lexing.{Classes, Pieces, Barriers, Trivia, Fits, Lexes, AreApart}
+use Rattle.hr_rules.specs.Lexing.{Classes, Pieces, Barriers, Trivia, Fits, Lexes, KeepApart}
 use Rattle.hr_rules.specs.Lexing.Trivia.{none, more}
 use Rattle.hr_rules.specs.Lexing.Lexes.{ends, goes}
-use Rattle.hr_rules.specs.Lexemes.{class_of, is_piece, bars, mark_len, LexesText}
-use Rattle.hr_rules.specs.Stops.{Leads, NothingFits, Stops, StopsAt, StopsHaveNone, OneStop, StoppedHasNone}
+use Rattle.hr_rules.specs.Lexemes.{is_piece}
+use Rattle.hr_rules.specs.Stops.{Leads, NothingFits, StopsHaveNone, OneStop, StoppedHasNone}
 use Rattle.hr_rules.specs.Stops.Leads.{here, past}
 use Rattle.hr_rules.proofs.Lexing.{same_trivia, same_lexeme, no_front}
 use Rattle.hr_rules.proofs.Apart.{rules_keep_apart}
@@ -16,7 +15,7 @@ use Rattle.hr_rules.proofs.Apart.{rules_keep_apart}
 unfoldable pub NoPiece : Pieces → List ℕ → Type 0
 NoPiece is_piece rest = (piece after : List ℕ) → rest ≡ piece ++ after → is_piece piece after ≢ true
 
-module _ {class_of : Classes} {is_piece : Pieces} {bars : Barriers} (laws : AreApart class_of is_piece bars) where
+module _ {class_of : Classes} {is_piece : Pieces} {bars : Barriers} (laws : KeepApart class_of is_piece bars) where
   no_piece_free : (rest : List ℕ) → bars rest ≡ false → NoPiece is_piece rest
   unfolding NoPiece
   no_piece_free rest free piece after e is = true≢false (sym (laws.piece_bars piece after is) ∙ ap bars (sym e) ∙ free)

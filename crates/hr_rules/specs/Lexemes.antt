@@ -14,7 +14,7 @@ use Rattle.hr_rules.specs.Qualified.{conid_class, qualifies_reserved}
 use Rattle.hr_rules.specs.Numbers.{number_class, is_too_wide}
 use Rattle.hr_rules.specs.Quotes.{char_len, string_len, literal_class}
 use Rattle.hr_rules.specs.Comments.{begins_line_comment, is_line_comment, is_nested_comment, opens}
-use Rattle.hr_rules.specs.Lexing.{Lexes, Classes, Pieces, Barriers, AreApart, joined}
+use Rattle.hr_rules.specs.Lexing.{Lexes, Classes, Pieces, Barriers, KeepApart, joined}
 
 abbrev pub is_empty : List ℕ → Bool
 is_empty [] = true
@@ -96,7 +96,7 @@ LexesText bytes items =
 
 -- the rules meet what a text needs to have one list of items at most
 abbrev pub RulesKeepApart : Type 0
-RulesKeepApart = AreApart class_of is_piece bars
+RulesKeepApart = KeepApart class_of is_piece bars
 
 -- a text has one list of items at most
 abbrev pub OneReading : Type 0

@@ -38,7 +38,7 @@ pub data Lexes (class_of : Classes) (is_piece : Pieces) (bars : Barriers) : List
       → Lexes class_of is_piece bars (item.trivia ++ (item.lexeme.text ++ rest)) (item ∷ items) tail
 
 -- what the predicates have to meet for a text to have one list of items at most
-pub record AreApart (class_of : Classes) (is_piece : Pieces) (bars : Barriers) : Type 0 where
+pub record KeepApart (class_of : Classes) (is_piece : Pieces) (bars : Barriers) : Type 0 where
   pub lexeme_not_empty : (after : List ℕ) → class_of [] after ≡ None
   pub piece_not_empty : (piece after : List ℕ) → is_piece piece after ≡ true → piece ≢ []
   pub piece_bars : (piece after : List ℕ) → is_piece piece after ≡ true → bars (piece ++ after) ≡ true
@@ -47,7 +47,7 @@ pub record AreApart (class_of : Classes) (is_piece : Pieces) (bars : Barriers) :
 
 -- a text has one list of items, and one tail, at most
 abbrev pub OneLexing : Type 0
-OneLexing = (class_of : Classes) (is_piece : Pieces) (bars : Barriers) → AreApart class_of is_piece bars
+OneLexing = (class_of : Classes) (is_piece : Pieces) (bars : Barriers) → KeepApart class_of is_piece bars
     → (bytes : List ℕ) (items : List Item) (tail : List ℕ) (others : List Item) (other_tail : List ℕ)
     → Lexes class_of is_piece bars bytes items tail → Lexes class_of is_piece bars bytes others other_tail
     → (items ≡ others) × (tail ≡ other_tail)

@@ -1,10 +1,11 @@
 -- Laws of positions, for a text in parts.
-use Rattle.std.specs.Prelude.{◌≡◌, ℕ, Bool, true, false, ◌==◌, List, [], ◌∷◌, ◌++◌}
+use Rattle.std.specs.Prelude.{◌≡◌, ℕ, Bool, true, false, ◌==◌, List, [], ◌∷◌, ◌++◌, length}
 use Rattle.std.specs.Str.{IsCharBoundary}
 use Rattle.hr_base.specs.declared.place.Pos.{Pos}
 use Rattle.hr_base.specs.declared.lexeme.Item.{Item}
 use Rattle.hr_scan.specs.Lines.{carriage_return, begins_with_linefeed}
-use Rattle.hr_rules.specs.Positions.{behind, positions_from}
+use Rattle.hr_scan.specs.Positions.{pos_at}
+use Rattle.hr_rules.specs.Positions.{behind, origin, positions_from}
 
 abbrev pub ends_with_return : List ℕ → Bool
 ends_with_return [] = false
@@ -28,3 +29,7 @@ behind_items pos (item ∷ items) = behind_items (behind (behind pos item.trivia
 -- the positions of items are those of a front of them, and those of the others behind that
 abbrev pub PositionsGoOn : Type 0
 PositionsGoOn = (pos : Pos) (items others : List Item) → positions_from pos (items ++ others) ≡ positions_from pos items ++ positions_from (behind_items pos items) others
+
+-- the position behind a part of a text is that of the place where it is cut
+abbrev pub BehindIsPosAt : Type 0
+BehindIsPosAt = (front back : List ℕ) → IsSeam front back → pos_at (front ++ back) (length front) ≡ ((behind origin front).line, (behind origin front).col)

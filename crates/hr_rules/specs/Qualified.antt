@@ -4,7 +4,7 @@ use Rattle.std.specs.List.{prefix_len}
 use Rattle.hr_base.specs.declared.lexeme.Class.{Class}
 use Rattle.hr_rules.specs.declared.character.Kind.{Kind}
 use Rattle.hr_rules.specs.Letters.{kind_of, is_in_name}
-use Rattle.hr_rules.specs.Runs.{stops}
+use Rattle.hr_rules.specs.Runs.{ends_run}
 use Rattle.hr_rules.specs.Names.{small_class, large_class, is_reserved_word}
 use Rattle.hr_rules.specs.Operators.{symbol_class}
 
@@ -29,7 +29,7 @@ name_class (c ∷ rest) after = name_class_by (kind_of c) c rest after
 
 -- a conid or a qualified name, behind its large letter
 abbrev pub conid_class : List ℕ → List ℕ → Option Class
-conid_class [] after = if stops is_in_name after then Some Class.ConId else None
+conid_class [] after = if ends_run is_in_name after then Some Class.ConId else None
 conid_class (c ∷ rest) after =
     if is_in_name c then conid_class rest after
     else (if c == 46 then qualified (name_class rest after) else None)

@@ -3,13 +3,13 @@ use Rattle.std.specs.Prelude.{ℕ, Bool, true, false, not, ◌&&◌, ◌==◌, L
 use Rattle.std.specs.List.{list_all}
 
 -- no run goes on into this text
-abbrev pub stops : (ℕ → Bool) → List ℕ → Bool
-stops p [] = true
-stops p (c ∷ rest) = not (p c)
+abbrev pub ends_run : (ℕ → Bool) → List ℕ → Bool
+ends_run p [] = true
+ends_run p (c ∷ rest) = not (p c)
 
 -- the first text is a run, and whole where the second one follows
 abbrev pub is_run : (ℕ → Bool) → List ℕ → List ℕ → Bool
-is_run p text after = list_all p text && stops p after
+is_run p text after = list_all p text && ends_run p after
 
 -- a character of the sort, or this character, begins a text
 abbrev pub begins : (ℕ → Bool) → List ℕ → Bool

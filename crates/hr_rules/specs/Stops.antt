@@ -4,7 +4,7 @@ use Rattle.std.specs.Prelude.{◌≡◌, ◌≢◌, ◌+◌, ℕ, true, List, []
 use Rattle.hr_base.specs.declared.lexeme.Class.{Class}
 use Rattle.hr_base.specs.declared.lexeme.Item.{Item}
 use Rattle.hr_base.specs.declared.lexeme.Items.{Items}
-use Rattle.hr_rules.specs.Lexing.{Classes, Pieces, Barriers, Trivia, Fits, AreApart, Lexes}
+use Rattle.hr_rules.specs.Lexing.{Classes, Pieces, Barriers, Trivia, Fits, KeepApart, Lexes}
 use Rattle.hr_rules.specs.Lexemes.{class_of, is_piece, bars, mark_len, LexesText}
 
 -- the text begins with the items and the trivia, and then the last text is left
@@ -31,13 +31,13 @@ pub record Stops (class_of : Classes) (is_piece : Pieces) (bars : Barriers) (byt
 
 -- where that is so there are no items
 abbrev pub StopsHaveNone : Type 0
-StopsHaveNone = (class_of : Classes) (is_piece : Pieces) (bars : Barriers) → AreApart class_of is_piece bars
+StopsHaveNone = (class_of : Classes) (is_piece : Pieces) (bars : Barriers) → KeepApart class_of is_piece bars
     → (bytes rest : List ℕ) → Stops class_of is_piece bars bytes rest
     → (items : List Item) (tail : List ℕ) → ¬ (Lexes class_of is_piece bars bytes items tail)
 
 -- and it is so at one place at most
 abbrev pub OneStop : Type 0
-OneStop = (class_of : Classes) (is_piece : Pieces) (bars : Barriers) → AreApart class_of is_piece bars
+OneStop = (class_of : Classes) (is_piece : Pieces) (bars : Barriers) → KeepApart class_of is_piece bars
     → (bytes rest other : List ℕ) → Stops class_of is_piece bars bytes rest → Stops class_of is_piece bars bytes other → rest ≡ other
 
 -- the whole rules stop at this place of a text; a byte order mark at its start is passed over

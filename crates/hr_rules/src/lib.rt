@@ -25,7 +25,7 @@ pub use laws::{
     lexings_join, one_lexing, one_reading, one_stop, readings_join, rules_keep_apart,
     stopped_has_none, stops_have_none,
 };
-pub use position_laws::{behind_goes_on, positions_go_on};
+pub use position_laws::{behind_goes_on, behind_is_pos_at, positions_go_on};
 pub use positions::{Reached, has_newline};
 pub use role::{Role, role_of};
 pub use words::{is_one_of, is_spelled};

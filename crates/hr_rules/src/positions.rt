@@ -1,14 +1,13 @@
 //! Where one is in a text.
 ghost use Rattle.std.specs.Prelude.{◌≡◌, ◌+◌, ◌*◌, ◌/◌, min};
 ghost use Rattle.hr_base.specs.declared.place.Pos.{Pos};
-ghost use Rattle.hr_scan.specs.Characters.{cell_len, char_at};
+ghost use Rattle.hr_scan.specs.Characters.{char_at};
 ghost use Rattle.hr_scan.specs.Columns.{next_column};
-ghost use Rattle.hr_scan.specs.Lines.{ends_newline};
 ghost use Rattle.hr_rules.specs.Counted.{counted, greatest, pos_of};
 ghost use Rattle.hr_rules.specs.Positions.{behind, behind_front, has_newline, is_same_pos, origin};
 
 use hr_base::Pos;
-use hr_scan::{Character, character_at};
+use hr_scan::{Character, cell_len, character_at, ends_newline};
 
 const TAB: u32 = 0x09;
 
@@ -81,26 +80,6 @@ pub fn has_newline(bytes: &[u8]) -> bool
     bytes
         .iter()
         .any(|byte| matches!(*byte, b'\n' | FORM_FEED | b'\r'))
-}
-
-/// Whether a newline ends with the first byte.
-fn ends_newline(bytes: &[u8]) -> bool
-    ensures { result ≡ ends_newline bytes.now }
-{
-    match bytes {
-        [b'\r', b'\n', ..] => false,
-        [b'\r', ..] => true,
-        [b'\n', ..] => true,
-        [FORM_FEED, ..] => true,
-        _ => false,
-    }
-}
-
-/// How many bytes a cell takes.
-fn cell_len(cell: Option<Character>) -> usize
-    ensures { result ≡ cell_len cell }
-{
-    cell.map_or(1, |character| character.len)
 }
 
 /// The column behind a cell that stands at this column.

@@ -1,7 +1,7 @@
-pub mod Caps
 pub mod Cells
 pub mod Characters
 pub mod ColumnLaws
+pub mod ColumnSteps
 pub mod LineIndex
 pub mod LineSpans
 pub mod LineStarts

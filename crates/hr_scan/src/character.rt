@@ -1,6 +1,6 @@
 //! The one decoder: the character that begins at a place of a text.
 ghost use Rattle.std.specs.Prelude.{◌≡◌, ◌+◌, drop, IfSome, IfNone};
-ghost use Rattle.hr_scan.specs.Characters.{announced_len, char_at, spelled, Begins};
+ghost use Rattle.hr_scan.specs.Characters.{announced_len, cell_len, char_at, spelled, Begins};
 ghost use Rattle.std.specs.Str.{StartsWithNoChar};
 
 use std::str;
@@ -20,6 +20,13 @@ pub fn character_at(bytes: &[u8], from: usize) -> Option<Character>
 {
     let (_, rest) = bytes.split_at_checked(from)?;
     first_character(rest)
+}
+
+/// How many bytes a cell of a text takes: a character, or one byte that begins none.
+pub fn cell_len(cell: Option<Character>) -> usize
+    ensures { result ≡ cell_len cell }
+{
+    cell.map_or(1, |character| character.len)
 }
 
 /// The character at the front.

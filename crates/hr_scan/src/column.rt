@@ -1,28 +1,29 @@
 //! The columns of a line.
-ghost use Rattle.std.specs.Prelude.{◌≡◌, ◌+◌, ◌*◌, ◌/◌, ◌<◌, ◌^◌, ◌++◌, min, map, replicate, length, IfOk, OnOk};
+ghost use Rattle.std.specs.Prelude.{◌≡◌, ◌++◌, replicate, IfOk, OnOk};
 ghost use Rattle.hr_scan.specs.Columns.{columns_of, next_column};
-ghost use Rattle.hr_scan.specs.Characters.{cell_len};
 
-use crate::character::{Character, character_at};
+use crate::character::{Character, cell_len, character_at};
 use std::alloc::{AllocError, Global};
 
 const TAB: u32 = 0x09;
 
 const BYTE_ORDER_MARK: u32 = 0xFEFF;
 
-/// For each byte of a line the column of its character, or `u32::MAX` for a column beyond it.
+/// For each byte of a line the column of its character. A column that no `u32` holds is want of memory.
 pub fn columns(alloc: Global, line: &[u8]) -> Result<Vec<u32>, AllocError>
-    ensures shown { IfOk result (λ columns. columns.items ≡ map (min u32.MAX) (columns_of line.now)) }
-    ensures exact { length line.now < 2 ^ 29 → IfOk result (λ columns. columns.items ≡ columns_of line.now) }
+    ensures { IfOk result (λ columns. columns.items ≡ columns_of line.now) }
 {
     let mut columns = Vec::with_capacity(alloc, line.len())?;
-    let mut column = 1;
+    let mut next = 1;
     let mut place = 0;
     while place < line.len() {
+        let Ok(column) = u32::try_from(next) else {
+            return Err(AllocError);
+        };
         let cell = character_at(line, place);
         let len = cell_len(cell);
         push_times(&mut columns, column, len)?;
-        column = next_column(column, cell);
+        next = next_column(column, cell);
         place += len;
     }
     Ok(columns)
@@ -38,28 +39,14 @@ fn push_times(columns: &mut Vec<u32>, column: u32, bytes: usize) -> Result<(), A
     Ok(())
 }
 
-/// How many bytes a cell takes.
-fn cell_len(cell: Option<Character>) -> usize
-    ensures { result ≡ cell_len cell }
-{
-    cell.map_or(1, |character| character.len)
-}
-
 /// The column behind a cell that stands at this column.
-fn next_column(column: u32, cell: Option<Character>) -> u32
-    ensures { result ≡ min u32.MAX (next_column column cell) }
+fn next_column(column: u32, cell: Option<Character>) -> u64
+    ensures { result ≡ next_column column cell }
 {
+    let column = u64::from(column);
     match cell.map(|character| character.code) {
-        Some(TAB) => next_tab_stop(column),
+        Some(TAB) => (column + 7) / 8 * 8 + 1,
         Some(BYTE_ORDER_MARK) => column,
-        _ => column.saturating_add(1),
+        _ => column + 1,
     }
-}
-
-/// The next column of the form 8k + 1.
-fn next_tab_stop(column: u32) -> u32
-    ensures { result ≡ min u32.MAX ((column + 7) / 8 * 8 + 1) }
-{
-    let stop = (u64::from(column) + 7) / 8 * 8 + 1;
-    u32::try_from(stop).unwrap_or(u32::MAX)
 }

@@ -7,9 +7,9 @@ mod column;
 mod lines;
 mod runs;
 
-pub use character::{Character, character_at};
+pub use character::{Character, cell_len, character_at};
 pub use column::columns;
-pub use lines::line_starts;
+pub use lines::{ends_newline, line_starts};
 pub use runs::{ByteClass, run_of};
 
 #[cfg(test)]

@@ -1,5 +1,5 @@
 //! Where the lines of a text start.
-ghost use Rattle.std.specs.Prelude.{◌≡◌, ◌<◌, drop, length, IfOk};
+ghost use Rattle.std.specs.Prelude.{◌≡◌, IfOk};
 ghost use Rattle.hr_scan.specs.Lines.{ends_newline, starts_of_lines};
 
 use std::alloc::{AllocError, Global};
@@ -12,20 +12,19 @@ pub fn line_starts(alloc: Global, bytes: &[u8]) -> Result<Vec<usize>, AllocError
 {
     let mut starts = vec![in alloc; 0]?;
     for place in 0..bytes.len() {
-        if ends_newline(bytes, place) {
+        let (_, rest) = bytes.split_at(place);
+        if ends_newline(rest) {
             starts.push(place + 1)?;
         }
     }
     Ok(starts)
 }
 
-/// Whether a newline ends with the byte at the place.
-fn ends_newline(bytes: &[u8], place: usize) -> bool
-    requires { place < length bytes.now }
-    ensures { result ≡ ends_newline (drop place bytes.now) }
+/// Whether a newline ends with the first byte.
+pub fn ends_newline(bytes: &[u8]) -> bool
+    ensures { result ≡ ends_newline bytes.now }
 {
-    let (_, rest) = bytes.split_at(place);
-    match rest {
+    match bytes {
         [b'\r', b'\n', ..] => false,
         [b'\r', ..] => true,
         [b'\n', ..] => true,

@@ -1,7 +1,7 @@
 use Rattle.std.proofs.Common.{rules, ◌≡◌, ◌≢◌, ◌≤◌, ◌+◌, ◌-◌, ◌==◌, ◌++◌, ◌∷◌, [], ℕ, Bool, true, false, List, length, take, drop, refl, sym, ap, subst, ◌∙◌, arith}
 use lib.Utf8.{scalars, encodes}
 use Rattle.hr_lexer.specs.declared.spans.Span.{Span}
-use Rattle.hr_lexer.specs.Spans.{items_at, behind_all}
+use Rattle.hr_lexer.specs.Spans.{items_at, past_spans}
 use Rattle.hr_lexer.specs.Refusals.{IsHalt}
 use Rattle.hr_lexer.proofs.Bytes.{scalars_drop}
 use Rattle.hr_lexer.proofs.Steps.{stepped, halted, finished, back_len}
@@ -25,10 +25,10 @@ returns-then-is_empty-clause-read c =
     let n : ℕ = c.trivia_len-trivia.result in
     let rest : List ℕ = c.split_at.result.1.now in
     let empty : length rest ≡ 0 = zero_when c.is_empty.result (length rest) c.if-is_empty.true c.is_empty.ensures in
-    let tail : encodes (behind_all c.loop-rest.spans.items text) ≡ encodes (take n left) =
+    let tail : encodes (past_spans c.loop-rest.spans.items text) ≡ encodes (take n left) =
     ap encodes (sym c.loop-rest.invariant.behind ∙ sym (all_taken n left rest c.split_at.ensures.back empty)) in
     finished readers (encodes text) (items_at c.loop-rest.spans.items text) left c.loop-rest.invariant.progress c.loop-rest.invariant.scalars
-    n c.trivia_len-trivia.ensures.value rest c.split_at.ensures.back (encodes (behind_all c.loop-rest.spans.items text)) tail empty
+    n c.trivia_len-trivia.ensures.value rest c.split_at.ensures.back (encodes (past_spans c.loop-rest.spans.items text)) tail empty
 
 pub utf8_len-requires : goal.utf8_len-requires
 utf8_len-requires c =

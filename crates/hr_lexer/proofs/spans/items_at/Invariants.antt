@@ -1,6 +1,6 @@
 use Rattle.std.proofs.Common.{◌≡◌, ◌++◌, drop}
 use Rattle.std.specs.Str.{encode_utf8_all}
-use Rattle.hr_lexer.specs.Spans.{items_at, behind_all, AreWithin}
+use Rattle.hr_lexer.specs.Spans.{items_at, past_spans, AreWithin}
 use Rattle.hr_lexer.proofs.spans.items_at.Given as goal
 
 -- the items that are there and those of the spans that are left are the items of all spans
@@ -9,5 +9,5 @@ invariant-loop-span l = record {
   spelled : l.left.bytes.now ≡ encode_utf8_all l.left.characters.now;
   within : AreWithin (drop l.span-index l.spans) l.left.characters.now;
   list : l.list.items ++ items_at (drop l.span-index l.spans) l.left.characters.now ≡ items_at l.fn.spans l.fn.source.characters.now;
-  tail : behind_all (drop l.span-index l.spans) l.left.characters.now ≡ behind_all l.fn.spans l.fn.source.characters.now;
+  tail : past_spans (drop l.span-index l.spans) l.left.characters.now ≡ past_spans l.fn.spans l.fn.source.characters.now;
 }

@@ -1,6 +1,7 @@
-use Rattle.std.proofs.Common.{◌∙◌, ap, drop, arith}
-use Rattle.hr_scan.specs.Characters.{cell_len}
-use Rattle.hr_scan.proofs.Caps.{columns_grow, columns_end, columns-exact}
+use Rattle.std.proofs.Common.{◌∙◌, ◌++◌, ap, drop, arith}
+use Rattle.hr_scan.specs.Characters.{cell_len, cells}
+use Rattle.hr_scan.specs.Columns.{columns_from}
+use Rattle.hr_scan.proofs.ColumnSteps.{columns_grow, columns_end}
 use Rattle.hr_scan.proofs.Cells.{cell_len-pos}
 use Rattle.hr_scan.proofs.column.columns.Goals as goal
 
@@ -10,13 +11,12 @@ loop-place-smaller c =
     omega (arith, cell_len-pos (drop c.loop-place.place c.args.line.now), long)
 
 pub loop-place-preserved : goal.loop-place-preserved
-loop-place-preserved c = (
-  c.next_column-column.type_inv,
-  columns_grow c.args.line.now c.loop-place.columns.items c.push_times.new.columns.items _ c.loop-place.place c.loop-place.column c.next_column-column.result c.cell_len-len.result c.character_at-cell.result
-      c.loop-place-test.true c.loop-place.invariant.0 c.loop-place.invariant.1 c.character_at-cell.ensures.value c.cell_len-len.ensures c.next_column-column.ensures c.in_ok-push_times.ensures,
-)
+loop-place-preserved c =
+    columns_grow c.args.line.now c.loop-place.columns.items c.push_times.new.columns.items _ c.loop-place.place c.in-Ok.column c.next_column-next.result c.cell_len-len.result c.character_at-cell.result
+    c.loop-place-test.true
+    (ap (λ n. c.loop-place.columns.items ++ columns_from n (cells (drop c.loop-place.place c.args.line.now))) c.in-Ok.ensures.1 ∙ c.loop-place.invariant)
+    c.character_at-cell.ensures.value c.cell_len-len.ensures c.next_column-next.ensures c.in_ok-push_times.ensures
 
-pub returns-clause-exact : goal.returns-clause-exact
-returns-clause-exact c = λ short.
-    columns_end c.args.line.now c.loop-place.columns.items _ c.loop-place.place c.loop-place.column c.loop-place-test.false c.loop-place.invariant.1
-    ∙ columns-exact c.args.line.now short
+pub returns : goal.returns
+returns c =
+    columns_end c.args.line.now c.loop-place.columns.items _ c.loop-place.place c.loop-place.next c.loop-place-test.false c.loop-place.invariant
