@@ -4,7 +4,7 @@ use Rattle.hr_base.specs.declared.lexeme.Item.{Item}
 use Rattle.hr_rules.specs.declared.role.Role.{Role}
 use Rattle.hr_rules.specs.declared.block.Placed.{Placed}
 use Rattle.hr_tree.specs.Yields.{ty_items, pat_items, exp_items}
-use Rattle.hr_grammar.specs.Firsts.{Begins, begins_type, begins_pattern, BeginsExpression}
+use Rattle.hr_grammar.specs.Firsts.{FirstHas, begins_type, begins_pattern, BeginsExpression}
 use Rattle.hr_grammar.proofs.Firsts.{types_begin_lem, patterns_begin_lem, expressions_begin_lem}
 use Rattle.hr_grammar_cases.specs.Laws.{items_left, ReadingsShrink}
 use Rattle.hr_grammar_cases.proofs.Modules.{levels_give_lem}
@@ -30,7 +30,7 @@ one_or_more item items ts us h =
     sym (left_length ts) ∙ ap length h ∙ ap suc (both_length items (items_left us) ∙ ap (λ k. length items + k) (left_length us)) in
     subst (λ k. length us < k) (sym e) (more (length items) (length us))
 
-begun : (test : Role → Bool) (items : List Item) (ts us : List Placed) → Begins test items → items_left ts ≡ items ++ items_left us → length us < length ts
+begun : (test : Role → Bool) (items : List Item) (ts us : List Placed) → FirstHas test items → items_left ts ≡ items ++ items_left us → length us < length ts
 begun test [] ts us b h = elim b [ ]
 begun test (item ∷ items) ts us b h = one_or_more item items ts us h
 
