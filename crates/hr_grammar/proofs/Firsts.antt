@@ -25,7 +25,7 @@ use Rattle.hr_grammar.specs.Types.{TyProduction}
 use Rattle.hr_grammar.specs.Patterns.{PatProduction}
 use Rattle.hr_grammar.specs.Expressions.{ExpProduction, last_operand}
 use Rattle.hr_grammar.specs.Yields.{nodes}
-use Rattle.hr_grammar.specs.Firsts.{Begins, begins_type, begins_pattern, begins_operand, opens_expression, BeginsExpression, TypesBegin, PatternsBegin, ExpressionsBegin}
+use Rattle.hr_grammar.specs.Firsts.{FirstHas, begins_type, begins_pattern, begins_operand, opens_expression, BeginsExpression, TypesBegin, PatternsBegin, ExpressionsBegin}
 use Rattle.hr_grammar.specs.Joins.{ty_joined, pat_joined, exp_joined}
 use Rattle.hr_grammar.proofs.Joins.{yields_join_lem}
 
@@ -38,7 +38,7 @@ pub of_text : (test : Role → Bool) (class : Class) (text : List ℕ) (item : I
 unfolding role_of
 of_text test class text item is t = ap₂ (λ c w. test (role_by c w)) is.0 is.1 ∙ t
 
-pub begins_more : (test : Role → Bool) (items more : List Item) → Begins test items → Begins test (items ++ more)
+pub begins_more : (test : Role → Bool) (items more : List Item) → FirstHas test items → FirstHas test (items ++ more)
 begins_more test [] more b = elim b [ ]
 begins_more test (item ∷ items) more b = b
 
@@ -52,21 +52,21 @@ name_begins : (test : Role → Bool) → test Role.Name ≡ true → (item : Ite
 name_begins test t item (inl is) = of_class test Class.ConId item is t
 name_begins test t item (inr is) = of_class test Class.QConId item is t
 
-type_constructor_begins : (named : Constructor) → IsTypeConstructor named → Begins begins_type (constructor_items named)
+type_constructor_begins : (named : Constructor) → IsTypeConstructor named → FirstHas begins_type (constructor_items named)
 type_constructor_begins (Constructor.Name name) is = name_begins begins_type refl name is
 type_constructor_begins (Constructor.Symbol left symbol right) is = left_paren begins_type refl left is.0
 type_constructor_begins (Constructor.Unit left right) is = left_paren begins_type refl left is.0
 type_constructor_begins (Constructor.EmptyList left right) is = left_square begins_type refl left is.0
 type_constructor_begins (Constructor.Tuple left commas right) is = left_paren begins_type refl left is.0
 
-constructor_begins : (named : Constructor) → IsConstructor named → Begins begins_pattern (constructor_items named)
+constructor_begins : (named : Constructor) → IsConstructor named → FirstHas begins_pattern (constructor_items named)
 constructor_begins (Constructor.Name name) is = name_begins begins_pattern refl name is
 constructor_begins (Constructor.Symbol left symbol right) is = left_paren begins_pattern refl left is.0
 constructor_begins (Constructor.Unit left right) is = left_paren begins_pattern refl left is.0
 constructor_begins (Constructor.EmptyList left right) is = left_square begins_pattern refl left is.0
 constructor_begins (Constructor.Tuple left commas right) is = left_paren begins_pattern refl left is.0
 
-pub variable_begins : (variable : Variable) → IsVariable variable → Begins begins_pattern (variable_items variable)
+pub variable_begins : (variable : Variable) → IsVariable variable → FirstHas begins_pattern (variable_items variable)
 variable_begins (Variable.Name name) is = of_class begins_pattern Class.VarId name is refl
 variable_begins (Variable.Symbol left symbol right) is = left_paren begins_pattern refl left is.0
 
@@ -76,8 +76,8 @@ literal_begins item (inr (inl is)) = of_class begins_pattern Class.Char item is 
 literal_begins item (inr (inr is)) = of_class begins_pattern Class.Str item is refl
 
 -- one level, where types on the level below begin so
-ty_level : (levels : ℕ) → ((place : TyPlace) (ty : Ty) → (nodes levels).ty place ty → Begins begins_type (ty_items ty))
-    → (place : TyPlace) (layer : Ty-F Ty) → TyProduction (nodes levels) place layer → Begins begins_type (ty_joined layer)
+ty_level : (levels : ℕ) → ((place : TyPlace) (ty : Ty) → (nodes levels).ty place ty → FirstHas begins_type (ty_items ty))
+    → (place : TyPlace) (layer : Ty-F Ty) → TyProduction (nodes levels) place layer → FirstHas begins_type (ty_joined layer)
 ty_level levels below place (Ty-F.Variable name) is = of_class begins_type Class.VarId name is refl
 ty_level levels below place (Ty-F.Constructor named) is = type_constructor_begins named is
 ty_level levels below place (Ty-F.Apply named arguments) is = begins_more begins_type (constructor_items named) _ (type_constructor_begins named is.1)
@@ -89,10 +89,10 @@ ty_level levels below place (Ty-F.Group left part right) is = left_paren begins_
 pub types_begin_lem : TypesBegin
 types_begin_lem zero place ty is = elim is [ ]
 types_begin_lem (suc levels) place ty is =
-    subst (Begins begins_type) (sym (yields_join_lem.ty ty)) (ty_level levels (types_begin_lem levels) place (out-Ty ty) is)
+    subst (FirstHas begins_type) (sym (yields_join_lem.ty ty)) (ty_level levels (types_begin_lem levels) place (out-Ty ty) is)
 
-pat_level : (levels : ℕ) → ((place : PatPlace) (pat : Pat) → (nodes levels).pat place pat → Begins begins_pattern (pat_items pat))
-    → (place : PatPlace) (layer : Pat-F Pat) → PatProduction (nodes levels) place layer → Begins begins_pattern (pat_joined layer)
+pat_level : (levels : ℕ) → ((place : PatPlace) (pat : Pat) → (nodes levels).pat place pat → FirstHas begins_pattern (pat_items pat))
+    → (place : PatPlace) (layer : Pat-F Pat) → PatProduction (nodes levels) place layer → FirstHas begins_pattern (pat_joined layer)
 pat_level levels below place (Pat-F.Variable bound) is = variable_begins bound is
 pat_level levels below place (Pat-F.Wildcard word) is = of_text begins_pattern Class.ReservedId (codes "_") word is refl
 pat_level levels below place (Pat-F.Literal literal) is = literal_begins literal is
@@ -105,7 +105,7 @@ pat_level levels below place (Pat-F.Infix []) is = elim is.1 [ ]
 pat_level levels below place (Pat-F.Infix (operand ∷ [])) is = elim is.1 [ ]
 pat_level levels below place (Pat-F.Infix (operand ∷ (next ∷ rest))) is =
     begins_more begins_pattern (maybe_item operand.minus ++ (pat_items operand.part ++ maybe_operator operand.operator)) _
-    (subst (λ m. Begins begins_pattern (maybe_item m ++ (pat_items operand.part ++ maybe_operator operand.operator))) (sym is.2.0)
+    (subst (λ m. FirstHas begins_pattern (maybe_item m ++ (pat_items operand.part ++ maybe_operator operand.operator))) (sym is.2.0)
     (begins_more begins_pattern (pat_items operand.part) (maybe_operator operand.operator) (below PatPlace.Operand operand.part is.2.1)))
 pat_level levels below place (Pat-F.Tuple left parts right) is = left_paren begins_pattern refl left is.0
 pat_level levels below place (Pat-F.List left parts right) is = left_square begins_pattern refl left is.0
@@ -115,7 +115,7 @@ pat_level levels below place (Pat-F.Fields named left fields right) is = elim is
 pub patterns_begin_lem : PatternsBegin
 patterns_begin_lem zero place pat is = elim is [ ]
 patterns_begin_lem (suc levels) place pat is =
-    subst (Begins begins_pattern) (sym (yields_join_lem.pat pat)) (pat_level levels (patterns_begin_lem levels) place (out-Pat pat) is)
+    subst (FirstHas begins_pattern) (sym (yields_join_lem.pat pat)) (pat_level levels (patterns_begin_lem levels) place (out-Pat pat) is)
 
 -- an expression, by its class and text
 opens_by : (class : Class) (text : List ℕ) (item : Item) → IsText class text item → opens_expression class text ≡ true → opens_expression item.lexeme.class item.lexeme.text ≡ true

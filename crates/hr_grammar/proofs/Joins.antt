@@ -21,7 +21,7 @@ use Rattle.hr_tree.specs.Yields.{ty_layer, ty_items, pat_layer, pat_items, exp_l
 use Rattle.hr_tree.proofs.TypeYields.{ty_function, ty_group, ty_list, ty_apply, ty_tuple}
 use Rattle.hr_tree.proofs.PatternYields.{pat_as, pat_lazy, pat_apply, pat_infix, pat_tuple, pat_list, pat_group, pat_fields}
 use Rattle.hr_tree.proofs.ExpressionYields.{exp_group, exp_tuple, exp_list, exp_from, exp_from_then, exp_from_to, exp_from_then_to, exp_comprehension, exp_left_section, exp_right_section, exp_apply, exp_infix, exp_annotated, exp_lambda, exp_let, exp_if, exp_case, exp_fields, decl_equation, decl_binding, qualifier_generator, qualifier_locals, qualifier_test, alt_whole}
-use Rattle.hr_grammar.specs.Spans.{Span}
+use Rattle.hr_grammar.specs.Spans.{BlockSpan}
 use Rattle.hr_grammar.specs.Joins.{ty_joined, pat_joined, exp_joined, decl_joined, qualifier_joined, YieldsJoin, PartsStand}
 
 ty_layers : (layer : Ty-F Ty) → ty_items (roll-Ty layer) ≡ ty_joined layer
@@ -96,11 +96,11 @@ yields_join_lem = record {
   alt = alt_whole;
 }
 
-both : (P : Span → Type 0) (xs ys : List Span) → AllByRecursion P xs × AllByRecursion P ys → AllByRecursion P (xs ++ ys)
+both : (P : BlockSpan → Type 0) (xs ys : List BlockSpan) → AllByRecursion P xs × AllByRecursion P ys → AllByRecursion P (xs ++ ys)
 both P [] ys p = p.1
 both P (x ∷ xs) ys p = (p.0.0, both P xs ys (p.0.1, p.1))
 
-each : (P : Span → Type 0) (xs ys : List Span) → AllByRecursion P (xs ++ ys) → AllByRecursion P xs × AllByRecursion P ys
+each : (P : BlockSpan → Type 0) (xs ys : List BlockSpan) → AllByRecursion P (xs ++ ys) → AllByRecursion P xs × AllByRecursion P ys
 each P [] ys p = (tt, p)
 each P (x ∷ xs) ys p = let rest = each P xs ys p.1 in ((p.0, rest.0), rest.1)
 

@@ -26,7 +26,7 @@ use Rattle.hr_grammar.specs.Separated.{AreSeparated}
 use Rattle.hr_grammar.specs.Nodes.{PatPlace, DeclPlace}
 use Rattle.hr_grammar.specs.Declarations.{DeclProduction, fixity_words, takes_import, takes_top, IsLeftHeadOver, IsLeftSideOver}
 use Rattle.hr_grammar.specs.Yields.{nodes}
-use Rattle.hr_grammar.specs.Firsts.{Begins, begins_pattern, kind_at, opens_part, DeclarationsBegin, AlternativesBegin}
+use Rattle.hr_grammar.specs.Firsts.{FirstHas, begins_pattern, kind_at, opens_part, DeclarationsBegin, AlternativesBegin}
 use Rattle.hr_grammar.proofs.Firsts.{of_class, of_text, begins_more, left_paren, variable_begins, patterns_begin_lem}
 use Rattle.hr_grammar.specs.Joins.{decl_joined}
 use Rattle.hr_grammar.proofs.Tables.{one_of}
@@ -42,7 +42,7 @@ wider kind Role.Tilde b = refl
 wider kind Role.Minus b = refl
 wider kind _ b = let no : ⊥ = cc in elim no [ ]
 
-pattern_begins : (kind : BlockKind) (items : List Item) → Begins begins_pattern items → Begins (opens_part kind) items
+pattern_begins : (kind : BlockKind) (items : List Item) → FirstHas begins_pattern items → FirstHas (opens_part kind) items
 pattern_begins kind [] b = b
 pattern_begins kind (item ∷ items) b = wider kind (role_of item.lexeme) b
 
@@ -65,23 +65,23 @@ fixity_opens DeclPlace.Local = refl
 fixity_role : (text : List ℕ) → is_one_of fixity_words text ≡ true → role_by Class.ReservedId text ≡ Role.FixityWord
 fixity_role text h = one_of (role_by Class.ReservedId) Role.FixityWord fixity_words text (refl, (refl, (refl, tt))) h
 
-names_begin : (names : List (Listed Variable)) → AreSeparated IsComma IsVariable names → names ≢ [] → (rest : List Item) → Begins begins_pattern (flat_map (listed_items variable_items) names ++ rest)
+names_begin : (names : List (Listed Variable)) → AreSeparated IsComma IsVariable names → names ≢ [] → (rest : List Item) → FirstHas begins_pattern (flat_map (listed_items variable_items) names ++ rest)
 names_begin [] is some rest = elim (some refl) [ ]
 names_begin (name ∷ []) is some rest = begins_more begins_pattern (flat_map (listed_items variable_items) (name ∷ [])) rest
     (begins_more begins_pattern (listed_items variable_items name) [] (begins_more begins_pattern (variable_items name.part) (maybe_item name.separator) (variable_begins name.part is.0)))
 names_begin (name ∷ (next ∷ names)) is some rest = begins_more begins_pattern (flat_map (listed_items variable_items) (name ∷ (next ∷ names))) rest
     (begins_more begins_pattern (listed_items variable_items name) (flat_map (listed_items variable_items) (next ∷ names)) (begins_more begins_pattern (variable_items name.part) (maybe_item name.separator) (variable_begins name.part is.0)))
 
-head_begins : (levels : ℕ) (head : LeftHead) → IsLeftHeadOver (nodes levels) head → Begins begins_pattern (left_head_items head)
+head_begins : (levels : ℕ) (head : LeftHead) → IsLeftHeadOver (nodes levels) head → FirstHas begins_pattern (left_head_items head)
 head_begins levels (LeftHead.Prefix variable patterns) is = begins_more begins_pattern (variable_items variable) _ (variable_begins variable is.0)
 head_begins levels (LeftHead.Infix first operator second) is = begins_more begins_pattern (pat_items first) _ (patterns_begin_lem levels PatPlace.Whole first is.0)
 
 left_begins : (levels : ℕ) (opens : List Item) (head : LeftHead) (closes : List Closed) → IsLeftSideOver (nodes levels) (record { opens = opens; head = head; closes = closes })
-    → Begins begins_pattern (left_side_items (record { opens = opens; head = head; closes = closes }))
+    → FirstHas begins_pattern (left_side_items (record { opens = opens; head = head; closes = closes }))
 left_begins levels [] head closes is = begins_more begins_pattern (left_head_items head) _ (head_begins levels head is.1.0)
 left_begins levels (left ∷ opens) head closes is = left_paren begins_pattern refl left is.0.0
 
-decl_level : (levels : ℕ) (place : DeclPlace) (layer : Decl-F Decl Exp Qualifier Alt) → DeclProduction (nodes levels) place layer → Begins (opens_part (kind_at place)) (decl_joined layer)
+decl_level : (levels : ℕ) (place : DeclPlace) (layer : Decl-F Decl Exp Qualifier Alt) → DeclProduction (nodes levels) place layer → FirstHas (opens_part (kind_at place)) (decl_joined layer)
 decl_level levels place (Decl-F.Import import) is = of_text (opens_part (kind_at place)) Class.ReservedId (codes "import") import.word is.1.0 (import_opens place is.0)
 decl_level levels place (Decl-F.Synonym word head equals ty) is = of_text (opens_part (kind_at place)) Class.ReservedId (codes "type") word is.1 (top_opens place is.0)
 decl_level levels place (Decl-F.Data word head equals constructions) is =
@@ -98,10 +98,10 @@ decl_level levels place (Decl-F.Binding pattern body locals) is =
 
 pub declarations_begin_lem : DeclarationsBegin
 declarations_begin_lem zero place decl is = elim is [ ]
-declarations_begin_lem (suc levels) place decl is = subst (Begins (opens_part (kind_at place))) (sym (yields_join_lem.decl decl)) (decl_level levels place (out-Decl decl) is)
+declarations_begin_lem (suc levels) place decl is = subst (FirstHas (opens_part (kind_at place))) (sym (yields_join_lem.decl decl)) (decl_level levels place (out-Decl decl) is)
 
 pub alternatives_begin_lem : AlternativesBegin
 alternatives_begin_lem zero alt is = elim is [ ]
 alternatives_begin_lem (suc levels) alt is =
-    subst (Begins (opens_part BlockKind.Alternatives)) (sym (yields_join_lem.alt alt))
+    subst (FirstHas (opens_part BlockKind.Alternatives)) (sym (yields_join_lem.alt alt))
     (pattern_begins BlockKind.Alternatives _ (begins_more begins_pattern (pat_items (out-Alt alt).pattern) _ (patterns_begin_lem levels PatPlace.Whole (out-Alt alt).pattern is.0)))

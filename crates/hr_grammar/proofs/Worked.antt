@@ -23,20 +23,20 @@ use Rattle.hr_tree.specs.Lists.{block_items}
 use Rattle.hr_tree.specs.Yields.{done}
 use Rattle.hr_grammar.specs.Nodes.{Colons, ExpPlace}
 use Rattle.hr_grammar.specs.Yields.{IsModule, nodes, nesting_limit}
-use Rattle.hr_grammar.specs.Spans.{Laid, Span, blockless, block_laid, ◌▷◌}
+use Rattle.hr_grammar.specs.Spans.{Laid, BlockSpan, blockless, block_laid, ◌▷◌}
 use Rattle.hr_grammar.specs.Offside.{placed_among, StandsWell}
-use Rattle.hr_grammar.specs.Worked.{item, joint, name, mark, only, defines, behind_blocks, IsWorked, case_in_tuple, case_in_comprehension, case_in_sequence, case_in_if, case_in_case, annotated_in_let, where_in_let, sum_behind_case, section_of_lambda, WorkedTrees}
+use Rattle.hr_grammar.specs.Worked.{item, joint, name, reserved, only, defines, behind_blocks, IsWorked, case_in_tuple, case_in_comprehension, case_in_sequence, case_in_if, case_in_case, annotated_in_let, where_in_let, sum_behind_case, section_of_lambda, WorkedTrees}
 use Rattle.hr_grammar.proofs.OffsideTest.{all_stand_well, all_stand_well_is}
 use Rattle.hr_grammar.proofs.Laid.{ReadExp, yield_by, of_decl, read_bound, read_built, read_type, read_binding, read_variable, read_constructor, read_literal, read_group, read_from, read_left_section, read_if, read_let, read_case, read_alt, read_lambda, read_annotated, read_tuple, read_infix, read_generator, read_comprehension, read_where}
 
 -- the blocks and the items of a module of one declaration, from those of the declaration
-abbrev spans_with : Laid → List Span
+abbrev spans_with : Laid → List BlockSpan
 spans_with laid = (blockless [] ▷ block_laid BlockKind.Body (only 1 laid)).blocks 0 0
 
 abbrev items_with : List Item → List Item
 items_with items = block_items done (only 1 items)
 
-abbrev AllStand : List Span → List Item → Type 0
+abbrev AllStand : List BlockSpan → List Item → Type 0
 AllStand spans items = AllByRecursion (StandsWell spans (placed_among spans 0 (placed_of items))) spans
 
 -- an expression that is the body of a module's only declaration, within the limit on nesting
@@ -49,17 +49,17 @@ defines_grammar text body is = (tt, (tt, ([], (defines text body).body.pieces, r
 
 -- what computes for such a module is so
 stands : (text : List ℕ) (body : Exp) (source : List ℕ) (ends : List (Option (List ℕ))) (read : ReadExp body)
-    → let decl = read_binding {mark = mark (codes "=")} (read_bound {variable = name [] text}) read in
+    → let decl = read_binding {mark = reserved (codes "=")} (read_bound {variable = name [] text}) read in
     IsBody body
     → all_stand_well (spans_with decl.laid) (placed_among (spans_with decl.laid) 0 (placed_of (items_with decl.items))) (spans_with decl.laid) ≡ true
     → joined (items_with decl.items) [] ≡ source
     → behind_blocks (spans_with decl.laid) (items_with decl.items) ≡ ends
     → IsWorked (defines text body) source ends
 stands text body source ends read grammar well is_text are_ends =
-    let decl = read_binding {mark = mark (codes "=")} (read_bound {variable = name [] text}) read in
+    let decl = read_binding {mark = reserved (codes "=")} (read_bound {variable = name [] text}) read in
     record {
       grammar = defines_grammar text body grammar;
-      offside = subst (λ (laid : Laid). AllStand (spans_with laid) (items_with (of_decl yield_by (Binding (Bound (name [] text)) (Body.Plain (mark (codes "=")) body) None)))) (sym decl.laid_is)
+      offside = subst (λ (laid : Laid). AllStand (spans_with laid) (items_with (of_decl yield_by (Binding (Bound (name [] text)) (Body.Plain (reserved (codes "=")) body) None)))) (sym decl.laid_is)
           (subst (λ (items : List Item). AllStand (spans_with decl.laid) (items_with items)) (sym decl.items_is) (all_stand_well_is (spans_with decl.laid) _ (spans_with decl.laid) well));
       spelled = ap (λ (items : List Item). joined (items_with items) []) decl.items_is ∙ is_text;
       ended = (λ j. behind_blocks (spans_with (decl.laid_is j)) (items_with (decl.items_is j))) ∙ are_ends;
@@ -131,7 +131,7 @@ tuple_stands = stands (codes "a") case_in_tuple _ _ (read_tuple (joint (codes ",
 
 comprehension_stands : IsWorked (defines (codes "a") case_in_comprehension) (codes "a = [case x of y -> 1 : [] | y <- z]") (None ∷ Some (codes "|") ∷ [])
 unfolding can_follow role_of
-comprehension_stands = stands (codes "a") case_in_comprehension _ _ (read_comprehension (read_case read_variable (read_alt read_bound (read_infix (Operator.Symbol (mark (codes ":"))) read_literal read_constructor))) (read_generator read_bound read_variable)) comprehension_grammar refl refl refl
+comprehension_stands = stands (codes "a") case_in_comprehension _ _ (read_comprehension (read_case read_variable (read_alt read_bound (read_infix (Operator.Symbol (reserved (codes ":"))) read_literal read_constructor))) (read_generator read_bound read_variable)) comprehension_grammar refl refl refl
 
 sequence_stands : IsWorked (defines (codes "a") case_in_sequence) (codes "a = [case x of y -> 1 ..]") (None ∷ Some (codes "..") ∷ [])
 unfolding can_follow role_of

@@ -18,9 +18,9 @@ use Rattle.hr_grammar.specs.Nodes.{Colons, TyPlace, PatPlace, ExpPlace, DeclPlac
 use Rattle.hr_grammar.specs.Yields.{nodes}
 
 -- there is a first item, of such a role
-abbrev pub Begins : (Role → Bool) → List Item → Type 0
-Begins test [] = ⊥
-Begins test (item ∷ items) = test (role_of item.lexeme) ≡ true
+abbrev pub FirstHas : (Role → Bool) → List Item → Type 0
+FirstHas test [] = ⊥
+FirstHas test (item ∷ items) = test (role_of item.lexeme) ≡ true
 
 -- a type begins with a name, `(` or `[`
 abbrev pub begins_type : Role → Bool
@@ -29,7 +29,7 @@ begins_type Role.OpenBracket = true
 begins_type _ = false
 
 abbrev pub TypesBegin : Type 0
-TypesBegin = (levels : ℕ) (place : TyPlace) (ty : Ty) → (nodes levels).ty place ty → Begins begins_type (ty_items ty)
+TypesBegin = (levels : ℕ) (place : TyPlace) (ty : Ty) → (nodes levels).ty place ty → FirstHas begins_type (ty_items ty)
 
 -- a pattern begins so too, or with a literal, `_`, `~` or a minus
 abbrev pub begins_pattern : Role → Bool
@@ -42,7 +42,7 @@ begins_pattern Role.Minus = true
 begins_pattern _ = false
 
 abbrev pub PatternsBegin : Type 0
-PatternsBegin = (levels : ℕ) (place : PatPlace) (pat : Pat) → (nodes levels).pat place pat → Begins begins_pattern (pat_items pat)
+PatternsBegin = (levels : ℕ) (place : PatPlace) (pat : Pat) → (nodes levels).pat place pat → FirstHas begins_pattern (pat_items pat)
 
 -- `\`, and the words that begin an expression
 abbrev pub opens_expression : Class → List ℕ → Bool
@@ -77,7 +77,7 @@ opens_part kind Role.Semicolon = false
 opens_part kind role = begins_part kind role
 
 abbrev pub DeclarationsBegin : Type 0
-DeclarationsBegin = (levels : ℕ) (place : DeclPlace) (decl : Decl) → (nodes levels).decl place decl → Begins (opens_part (kind_at place)) (decl_items decl)
+DeclarationsBegin = (levels : ℕ) (place : DeclPlace) (decl : Decl) → (nodes levels).decl place decl → FirstHas (opens_part (kind_at place)) (decl_items decl)
 
 abbrev pub AlternativesBegin : Type 0
-AlternativesBegin = (levels : ℕ) (alt : Alt) → (nodes levels).alt alt → Begins (opens_part BlockKind.Alternatives) (alt_items alt)
+AlternativesBegin = (levels : ℕ) (alt : Alt) → (nodes levels).alt alt → FirstHas (opens_part BlockKind.Alternatives) (alt_items alt)

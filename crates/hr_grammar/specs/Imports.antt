@@ -15,10 +15,10 @@ use Rattle.hr_grammar.specs.Spelled.{Maybe, IsVariable, IsNamedVariable, IsOwnCo
 use Rattle.hr_grammar.specs.Separated.{AreSeparated}
 
 -- the constructors that are named with a type: all of them, or some, also none
-abbrev pub AreMembers : Option Members → Type 0
-AreMembers None = Unit {0}
-AreMembers (Some (Members.All left dots right)) = IsLeftParen left × (IsDots dots × IsRightParen right)
-AreMembers (Some (Members.Named left list right)) = IsLeftParen left × (AreSeparated IsComma IsOwnConstructor list × IsRightParen right)
+abbrev pub AreTypeMembers : Option Members → Type 0
+AreTypeMembers None = Unit {0}
+AreTypeMembers (Some (Members.All left dots right)) = IsLeftParen left × (IsDots dots × IsRightParen right)
+AreTypeMembers (Some (Members.Named left list right)) = IsLeftParen left × (AreSeparated IsComma IsOwnConstructor list × IsRightParen right)
 
 -- names in parentheses: none or more, and then perhaps a comma
 abbrev pub IsNameList : {T : Type 0} → (T → Type 0) → NameList T → Type 0
@@ -30,7 +30,7 @@ IsTypeName item = IsOf Class.ConId item ⊎ IsOf Class.QConId item
 
 abbrev pub IsExport : Export → Type 0
 IsExport (Export.Variable variable) = IsNamedVariable variable
-IsExport (Export.Type name members) = IsTypeName name × AreMembers members
+IsExport (Export.Type name members) = IsTypeName name × AreTypeMembers members
 IsExport (Export.Module word name) = IsWord (codes "module") word × IsOf Class.ConId name
 
 abbrev pub AreExports : Option (NameList Export) → Type 0
@@ -39,7 +39,7 @@ AreExports (Some names) = IsNameList IsExport names
 
 abbrev pub IsImported : Imported → Type 0
 IsImported (Imported.Variable variable) = IsVariable variable
-IsImported (Imported.Type name members) = IsOf Class.ConId name × AreMembers members
+IsImported (Imported.Type name members) = IsOf Class.ConId name × AreTypeMembers members
 
 abbrev pub IsAlias : Option Alias → Type 0
 IsAlias None = Unit {0}

@@ -18,7 +18,7 @@ use Rattle.hr_tree.specs.declared.expressions.Decl.TheOpen.{Decl-F, Exp-F, Quali
 use Rattle.hr_tree.specs.Names.{maybe_item, variable_items, constructor_items, operator_items}
 use Rattle.hr_tree.specs.Lists.{listed_items, operand_items, field_items, block_items, body_items, where_items, opening_items}
 use Rattle.hr_tree.specs.Yields.{ty_items, pat_items, exp_items, decl_items, qualifier_items, alt_items, type_head_items, construction_items, left_side_items, import_items}
-use Rattle.hr_grammar.specs.Spans.{Laid, ◌▷◌, Span, blockless, row, piece_laid, stretch_of, last_ending, block_laid, column_inside}
+use Rattle.hr_grammar.specs.Spans.{Laid, ◌▷◌, BlockSpan, blockless, row, piece_laid, stretch_of, last_ending, block_laid, column_inside}
 use Rattle.hr_grammar.specs.Offside.{StandsWell}
 
 -- the lexemes of a type's parts, from left to right
@@ -97,11 +97,11 @@ pub record YieldsJoin : Type 0 where
   pub alt : (alt : Alt) → alt_items alt ≡ alt_joined (out-Alt alt)
 
 -- blocks that all stand as the layout rule says among the lexemes of a tree with these blocks
-abbrev pub AllStand : List Span → List Placed → List Span → Type 0
+abbrev pub AllStand : List BlockSpan → List Placed → List BlockSpan → Type 0
 AllStand spans lexemes blocks = AllByRecursion (StandsWell spans lexemes) blocks
 
 -- the block itself, without those inside it
-abbrev pub own_span : BlockKind → Block Laid → ℕ → ℕ → Span
+abbrev pub own_span : BlockKind → Block Laid → ℕ → ℕ → BlockSpan
 own_span kind block m start = record {
   layout = block.layout;
   kind = kind;
@@ -115,10 +115,10 @@ own_span kind block m start = record {
 -- the blocks of one stretch behind another stand where those of both do; those of a block, where it stands itself and
 -- those of its pieces do
 pub record PartsStand : Type 0 where
-  pub behind : (spans : List Span) (lexemes : List Placed) (first second : Laid) (m start : ℕ)
+  pub behind : (spans : List BlockSpan) (lexemes : List Placed) (first second : Laid) (m start : ℕ)
       → (AllStand spans lexemes (first.blocks m start) × AllStand spans lexemes (second.blocks m (start + first.extent)))
       ↔ AllStand spans lexemes ((first ▷ second).blocks m start)
-  pub block : (spans : List Span) (lexemes : List Placed) (kind : BlockKind) (block : Block Laid) (m start : ℕ)
+  pub block : (spans : List BlockSpan) (lexemes : List Placed) (kind : BlockKind) (block : Block Laid) (m start : ℕ)
       → (StandsWell spans lexemes (own_span kind block m start)
       × AllStand spans lexemes ((row (map piece_laid block.pieces)).blocks (column_inside block.layout) (start + (blockless (opening_items block.layout)).extent)))
       ↔ AllStand spans lexemes ((block_laid kind block).blocks m start)

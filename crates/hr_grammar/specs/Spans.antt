@@ -34,7 +34,7 @@ stretch_length (Stretch.Part n) = n
 -- a block: its braces or its column, its kind, the column of the enclosing implicit block (0 if there is none,
 -- or an explicit brace is nearer), the number of its first lexeme and of its lexemes, its pieces, and how the
 -- last one ends
-pub record Span : Type 0 where
+pub record BlockSpan : Type 0 where
   pub layout : Layout
   pub kind : BlockKind
   pub enclosing : ℕ
@@ -48,7 +48,7 @@ pub record Span : Type 0 where
 pub record Laid : Type 0 where
   pub extent : ℕ
   pub ending : Ending
-  pub blocks : ℕ → ℕ → List Span
+  pub blocks : ℕ → ℕ → List BlockSpan
 
 -- lexemes without a block
 abbrev pub blockless : List Item → Laid
@@ -189,6 +189,6 @@ piece_of (Piece.Semicolon item) = Piece.Semicolon item
 piece_of (Piece.Part decl) = Piece.Part (laid_of decl)
 
 -- the blocks of a module, its body first
-abbrev pub spans_of : Module → List Span
+abbrev pub spans_of : Module → List BlockSpan
 spans_of tree =
     (blockless (header_items tree.header) ▷ block_laid BlockKind.Body (record { layout = tree.body.layout; pieces = map piece_of tree.body.pieces })).blocks 0 0

@@ -24,7 +24,7 @@ use Rattle.hr_tree.specs.declared.expressions.Qualifier.TheVariants.{Generator}
 use Rattle.hr_tree.specs.declared.modules.Module.{Module}
 use Rattle.hr_tree.specs.Yields.{items_of, module_items}
 use Rattle.hr_grammar.specs.Yields.{IsModule, nesting_limit}
-use Rattle.hr_grammar.specs.Spans.{Span, spans_of}
+use Rattle.hr_grammar.specs.Spans.{BlockSpan, spans_of}
 use Rattle.hr_grammar.specs.Offside.{Offside}
 
 -- an item, by what stands before it
@@ -35,8 +35,8 @@ item class trivia text = record { trivia = trivia; lexeme = record { class = cla
 abbrev pub word : List ℕ → Item
 word = item Class.ReservedId (codes " ")
 
-abbrev pub mark : List ℕ → Item
-mark = item Class.ReservedOp (codes " ")
+abbrev pub reserved : List ℕ → Item
+reserved = item Class.ReservedOp (codes " ")
 
 abbrev pub bracket : List ℕ → Item
 bracket = item Class.Special (codes " ")
@@ -64,7 +64,7 @@ abbrev pub only : {T : Type 0} → ℕ → T → Block T
 only col part = record { layout = Layout.Implicit col; pieces = Piece.Part part ∷ [] }
 
 abbrev pub alternative : Pat → Exp → Alt
-alternative pattern body = roll-Alt (record { pattern = pattern; body = Body.Plain (mark (codes "->")) body; locals = None })
+alternative pattern body = roll-Alt (record { pattern = pattern; body = Body.Plain (reserved (codes "->")) body; locals = None })
 
 -- `case`, with what stands before it
 abbrev pub case_of : Item → List ℕ → ℕ → Pat → Exp → Exp
@@ -72,7 +72,7 @@ case_of first text col pattern body = Case first (variable text) (word (codes "o
 
 -- a module that binds a name, on its first line
 abbrev pub defines : List ℕ → Exp → Module
-defines text body = record { header = None; body = only 1 (Binding (Bound (name [] text)) (Body.Plain (mark (codes "=")) body) None); tail = [] }
+defines text body = record { header = None; body = only 1 (Binding (Bound (name [] text)) (Body.Plain (reserved (codes "=")) body) None); tail = [] }
 
 -- `a = (case x of y -> 1, 2)`
 abbrev pub case_in_tuple : Exp
@@ -85,13 +85,13 @@ case_in_tuple = Tuple (bracket (codes "("))
 abbrev pub case_in_comprehension : Exp
 case_in_comprehension = Comprehension (bracket (codes "["))
     (case_of (item Class.ReservedId [] (codes "case")) (codes "x") 16 (bound (codes "y"))
-    (Infix (record { minus = None; part = number (codes "1"); operator = Some (Operator.Symbol (mark (codes ":"))) }
+    (Infix (record { minus = None; part = number (codes "1"); operator = Some (Operator.Symbol (reserved (codes ":"))) }
     ∷ record { minus = None; part = Constructor (Built.EmptyList (bracket (codes "[")) (joint (codes "]"))); operator = None } ∷ [])))
-    (mark (codes "|")) (record { part = Generator (bound (codes "y")) (mark (codes "<-")) (variable (codes "z")); separator = None } ∷ []) (joint (codes "]"))
+    (reserved (codes "|")) (record { part = Generator (bound (codes "y")) (reserved (codes "<-")) (variable (codes "z")); separator = None } ∷ []) (joint (codes "]"))
 
 -- `a = [case x of y -> 1 ..]`
 abbrev pub case_in_sequence : Exp
-case_in_sequence = From (bracket (codes "[")) (case_of (item Class.ReservedId [] (codes "case")) (codes "x") 16 (bound (codes "y")) (number (codes "1"))) (mark (codes "..")) (joint (codes "]"))
+case_in_sequence = From (bracket (codes "[")) (case_of (item Class.ReservedId [] (codes "case")) (codes "x") 16 (bound (codes "y")) (number (codes "1"))) (reserved (codes "..")) (joint (codes "]"))
 
 -- `a = if case x of y -> y then 1 else 2`
 abbrev pub case_in_if : Exp
@@ -105,14 +105,14 @@ case_in_case = Case (word (codes "case")) (case_of (word (codes "case")) (codes 
 
 -- `a = let b = 1 :: Int in b`
 abbrev pub annotated_in_let : Exp
-annotated_in_let = Let (word (codes "let")) (only 9 (Binding (bound (codes "b")) (Body.Plain (mark (codes "=")) (Annotated (number (codes "1")) (mark (codes "::")) (type (codes "Int")))) None))
+annotated_in_let = Let (word (codes "let")) (only 9 (Binding (bound (codes "b")) (Body.Plain (reserved (codes "=")) (Annotated (number (codes "1")) (reserved (codes "::")) (type (codes "Int")))) None))
     (word (codes "in")) (variable (codes "b"))
 
 -- `a = let b = c where c = 1 in b`
 abbrev pub where_in_let : Exp
 where_in_let = Let (word (codes "let"))
-    (only 9 (Binding (bound (codes "b")) (Body.Plain (mark (codes "=")) (variable (codes "c")))
-    (Some (record { word = word (codes "where"); block = only 21 (Binding (bound (codes "c")) (Body.Plain (mark (codes "=")) (number (codes "1"))) None) }))))
+    (only 9 (Binding (bound (codes "b")) (Body.Plain (reserved (codes "=")) (variable (codes "c")))
+    (Some (record { word = word (codes "where"); block = only 21 (Binding (bound (codes "c")) (Body.Plain (reserved (codes "=")) (number (codes "1"))) None) }))))
     (word (codes "in")) (variable (codes "b"))
 
 -- `x = (case a of A -> 1 :: T + 2)`
@@ -120,7 +120,7 @@ abbrev pub sum_behind_case : Exp
 sum_behind_case = Group (bracket (codes "("))
     (Infix (record {
       minus = None;
-      part = case_of (item Class.ReservedId [] (codes "case")) (codes "a") 16 (Built_by (Built.Name (item Class.ConId (codes " ") (codes "A")))) (Annotated (number (codes "1")) (mark (codes "::")) (type (codes "T")));
+      part = case_of (item Class.ReservedId [] (codes "case")) (codes "a") 16 (Built_by (Built.Name (item Class.ConId (codes " ") (codes "A")))) (Annotated (number (codes "1")) (reserved (codes "::")) (type (codes "T")));
       operator = Some (Operator.Symbol (item Class.VarSym (codes " ") (codes "+")));
     } ∷ record { minus = None; part = number (codes "2"); operator = None } ∷ []))
     (joint (codes ")"))
@@ -128,7 +128,7 @@ sum_behind_case = Group (bracket (codes "("))
 -- `a = (\x -> x +)`
 abbrev pub section_of_lambda : Exp
 section_of_lambda = LeftSection (bracket (codes "("))
-    (Lambda (item Class.ReservedOp [] (codes "\\")) (Bound (name [] (codes "x")) ∷ []) (mark (codes "->")) (variable (codes "x")))
+    (Lambda (item Class.ReservedOp [] (codes "\\")) (Bound (name [] (codes "x")) ∷ []) (reserved (codes "->")) (variable (codes "x")))
     (Operator.Symbol (item Class.VarSym (codes " ") (codes "+"))) (joint (codes ")"))
 
 -- the text of the next lexeme
@@ -137,8 +137,8 @@ next_text [] = None
 next_text (next ∷ rest) = Some next.lexeme.text
 
 -- of each block, in the order of their beginnings, the text of the lexeme behind it
-abbrev pub behind_blocks : List Span → List Item → List (Option (List ℕ))
-behind_blocks spans items = map (λ (span : Span). next_text (drop (span.start + span.extent) items)) spans
+abbrev pub behind_blocks : List BlockSpan → List Item → List (Option (List ℕ))
+behind_blocks spans items = map (λ (span : BlockSpan). next_text (drop (span.start + span.extent) items)) spans
 
 -- a tree with the text that it is the tree of, and with the lexemes that end its blocks: it is a tree of the
 -- grammar, and stands as the layout rule says

@@ -20,7 +20,7 @@ use Rattle.hr_grammar.specs.Spelled.{IsOwnConstructor, IsConstructorOperator}
 use Rattle.hr_grammar.specs.Nodes.{Nodes, TyPlace, PatPlace}
 use Rattle.hr_grammar.specs.Types.{TyProduction}
 use Rattle.hr_grammar.specs.Patterns.{ArePatOperands, PatProduction}
-use Rattle.hr_grammar.specs.Imports.{AreMembers, IsNameList, IsExport, AreExports, IsImported, IsAlias, AreImportNames, IsImport}
+use Rattle.hr_grammar.specs.Imports.{AreTypeMembers, IsNameList, IsExport, AreExports, IsImported, IsAlias, AreImportNames, IsImport}
 use Rattle.hr_grammar.specs.Yields.{IsHeader}
 use Rattle.hr_grammar_cases.specs.Readings.{Reading, maybe}
 use Rattle.hr_grammar_cases.specs.Derivations.{Derivations}
@@ -73,7 +73,7 @@ pat_is read allowed each n place (Pat-F.Apply named arguments) ts us r =
 pat_is read allowed each n place (Pat-F.Infix operands) ts us r = (r.0.0, r.0.1, pat_operands_are read allowed each n operands ts us r.1)
 pat_is read allowed each n place (Pat-F.Fields named left fields right) ts us r = r
 
-members_are : (n : ℕ) (members : Option Members) (ts us : List Placed) → maybe (members_reading n) members ts us → AreMembers members
+members_are : (n : ℕ) (members : Option Members) (ts us : List Placed) → maybe (members_reading n) members ts us → AreTypeMembers members
 members_are n None ts us r = tt
 members_are n (Some (Members.All left dots right)) ts us r = (r.1.0, (r.2.1.0, r.2.2.0))
 members_are n (Some (Members.Named left list right)) ts us r =

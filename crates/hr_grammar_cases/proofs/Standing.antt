@@ -6,10 +6,10 @@ use Rattle.hr_base.specs.declared.lexeme.Item.{Item}
 use Rattle.hr_rules.specs.declared.block.Placed.{Placed}
 use Rattle.hr_rules.specs.Blocks.{goes_on}
 use Rattle.hr_tree.specs.declared.lists.Layout.{Layout}
-use Rattle.hr_grammar.specs.Spans.{Span, Laid, ending_as}
-use Rattle.hr_grammar.specs.Offside.{StandsWell}
+use Rattle.hr_grammar.specs.Spans.{BlockSpan, Laid, ending_as}
+use Rattle.hr_grammar.specs.Offside.{StandsWell, Next}
 use Rattle.hr_grammar_cases.specs.Readings.{Reading, never, ◌▷◌, given, inside, ends_as}
-use Rattle.hr_grammar_cases.proofs.Stretches.{beside, Has, has_either, has_first, has_second, is_empty_at, empty_first, empty_second, Text, lexemes, seen, Next, before_or_behind}
+use Rattle.hr_grammar_cases.proofs.Stretches.{beside, Has, has_either, has_first, has_second, is_empty_at, empty_first, empty_second, Text, lexemes, seen, before_or_behind}
 
 -- ---- lexemes
 -- the lexeme of that number, if there is one, goes on in a block at the column
@@ -18,7 +18,7 @@ GoesAt text n i = Next (λ next. goes_on n next ≡ true) (drop i (lexemes text)
 
 -- it stands in explicit braces of the text, which lie between the numbers
 pub record Braced (text : Text) (low high i : ℕ) : Type 0 where
-  pub span : Span
+  pub span : BlockSpan
   pub among : Has text.spans span
   pub left : Item
   pub right : Item
@@ -57,7 +57,7 @@ least true start = start
 least false start = suc start
 
 -- a block that lies in the stretch
-pub record Within (opened : Bool) (start extent : ℕ) (span : Span) : Type 0 where
+pub record Within (opened : Bool) (start extent : ℕ) (span : BlockSpan) : Type 0 where
   pub behind : least opened start ≤ span.start
   pub ends : span.start + span.extent ≤ start + extent
 
@@ -75,20 +75,20 @@ still false begun (suc extent) = false
 
 -- the blocks of the stretch are blocks of the text, and no other one that is left empty starts in it. So a lexeme of
 -- the stretch counts as first on its line exactly where the reading marks it
-pub record Known (text : Text) (opened : Bool) (start extent : ℕ) (spans : List Span) : Type 0 where
+pub record Known (text : Text) (opened : Bool) (start extent : ℕ) (spans : List BlockSpan) : Type 0 where
   pub marks : (i : ℕ) → least opened start ≤ i → i ≤ start + extent → is_empty_at text.spans i ≡ is_empty_at spans i
-  pub among : (span : Span) → Has spans span → Has text.spans span
+  pub among : (span : BlockSpan) → Has spans span → Has text.spans span
 
 -- the lexemes left behind the stretch, as they stand in the text; each of its lexemes, but the first one of a part,
 -- which may stand at the column; its blocks
 pub record Standing (text : Text) (n : ℕ) (opened begun : Bool) (start : ℕ) (laid : Laid) (us : List Placed) : Type 0 where
   pub after : us ≡ seen text (still opened begun laid.extent) (start + laid.extent)
   pub each : (i : ℕ) → start ≤ i → i < start + laid.extent → Right text n start (start + laid.extent) i ⊎ ((i ≡ start) × (begun ≡ true))
-  pub blocks : (span : Span) → Has (laid.blocks n start) span → StandsWell text.spans (lexemes text) span
+  pub blocks : (span : BlockSpan) → Has (laid.blocks n start) span → StandsWell text.spans (lexemes text) span
 
 -- in the block at column n, what the reading takes is the stretch, and the stretch stands
 pub record Stands (text : Text) (n : ℕ) (opened : Bool) (laid : Laid) (reading : Reading) : Type 0 where
-  pub within : (ts us : List Placed) → reading ts us → (start : ℕ) (span : Span) → Has (laid.blocks n start) span → Within opened start laid.extent span
+  pub within : (ts us : List Placed) → reading ts us → (start : ℕ) (span : BlockSpan) → Has (laid.blocks n start) span → Within opened start laid.extent span
   pub stands : (ts us : List Placed) → reading ts us → (begun : Bool) (start : ℕ) → Known text opened start laid.extent (laid.blocks n start)
       → ts ≡ before text opened begun start → Standing text n opened begun start laid us
 
@@ -122,20 +122,20 @@ pub least_next : (opened : Bool) (start : ℕ) → least opened start ≤ suc st
 least_next true start = omega arith
 least_next false start = omega arith
 
-pub in_first : {opened : Bool} {start e : ℕ} (f : ℕ) {span : Span} → Within opened start e span → Within opened start (e + f) span
+pub in_first : {opened : Bool} {start e : ℕ} (f : ℕ) {span : BlockSpan} → Within opened start e span → Within opened start (e + f) span
 in_first f w = record { behind = w.behind; ends = omega (arith, w.ends) }
 
-pub in_second : (opened : Bool) (start e f : ℕ) {span : Span} → Within false (start + e) f span → Within opened start (e + f) span
+pub in_second : (opened : Bool) (start e f : ℕ) {span : BlockSpan} → Within false (start + e) f span → Within opened start (e + f) span
 in_second opened start e f {span} w = record { behind = omega (arith, least_next opened start, w.behind); ends = omega (arith, w.ends) }
 
-pub known_first : {text : Text} {opened : Bool} {start e f : ℕ} (spans others : List Span) → ((span : Span) → Has others span → Within false (start + e) f span)
+pub known_first : {text : Text} {opened : Bool} {start e f : ℕ} (spans others : List BlockSpan) → ((span : BlockSpan) → Has others span → Within false (start + e) f span)
     → Known text opened start (e + f) (spans ++ others) → Known text opened start e spans
 known_first {start = start} {e = e} spans others w k = record {
   marks = λ i l h. k.marks i l (omega arith) ∙ empty_first spans others i (λ span has same. let b = (w span has).behind in omega arith);
   among = λ span has. k.among span (has_first spans others span has);
 }
 
-pub known_second : {text : Text} {opened : Bool} {start e f : ℕ} (spans others : List Span) → ((span : Span) → Has spans span → Within opened start e span)
+pub known_second : {text : Text} {opened : Bool} {start e f : ℕ} (spans others : List BlockSpan) → ((span : BlockSpan) → Has spans span → Within opened start e span)
     → Known text opened start (e + f) (spans ++ others) → Known text false (start + e) f others
 known_second {opened = opened} {start = start} {e = e} spans others w k = record {
   marks = λ i l h. k.marks i (omega (arith, least_next opened start)) (omega arith) ∙ empty_second spans others i (λ span has same. let b = (w span has).ends in omega arith);
@@ -156,9 +156,9 @@ excused true begun start e i same b = let no : ⊥ = cc in elim no [ ]
 excused false begun start zero i same b = (omega arith, b)
 excused false begun start (suc e) i same b = let no : ⊥ = cc in elim no [ ]
 
-pub both_within : (n : ℕ) (opened : Bool) (a b : Laid) (start : ℕ) → ((span : Span) → Has (a.blocks n start) span → Within opened start a.extent span)
-    → ((span : Span) → Has (b.blocks n (start + a.extent)) span → Within false (start + a.extent) b.extent span)
-    → (span : Span) → Has ((beside a b).blocks n start) span → Within opened start (beside a b).extent span
+pub both_within : (n : ℕ) (opened : Bool) (a b : Laid) (start : ℕ) → ((span : BlockSpan) → Has (a.blocks n start) span → Within opened start a.extent span)
+    → ((span : BlockSpan) → Has (b.blocks n (start + a.extent)) span → Within false (start + a.extent) b.extent span)
+    → (span : BlockSpan) → Has ((beside a b).blocks n start) span → Within opened start (beside a b).extent span
 both_within n opened a b start g h span has = by (has_either (a.blocks n start) (b.blocks n (start + a.extent)) span has)
   where
     by : Has (a.blocks n start) span ⊎ Has (b.blocks n (start + a.extent)) span → Within opened start (a.extent + b.extent) span
@@ -186,7 +186,7 @@ both_stand text n opened begun start a b vs us s t = record {
     by i l h (inl c) = first_one i (s.each i l c)
     by i l h (inr c) = second_one i (t.each i c (omega arith))
 
-    with_block : (span : Span) → Has (a.blocks n start) span ⊎ Has (b.blocks n (start + a.extent)) span → StandsWell text.spans (lexemes text) span
+    with_block : (span : BlockSpan) → Has (a.blocks n start) span ⊎ Has (b.blocks n (start + a.extent)) span → StandsWell text.spans (lexemes text) span
     with_block span (inl c) = s.blocks span c
     with_block span (inr c) = t.blocks span c
 

@@ -12,21 +12,21 @@ use Rattle.hr_tree.specs.declared.lists.Layout.{Layout}
 use Rattle.hr_tree.specs.declared.lists.Piece.{Piece}
 use Rattle.hr_grammar.specs.Words.{IsLeftBrace, IsRightBrace, IsSemicolon}
 use Rattle.hr_grammar.specs.Nodes.{DeclPlace}
-use Rattle.hr_grammar.specs.Spans.{Span, Laid, one as one_laid, stretch_of, last_ending, block_laid}
+use Rattle.hr_grammar.specs.Spans.{BlockSpan, Laid, one as one_laid, stretch_of, last_ending, block_laid}
 use Rattle.hr_grammar.specs.Offside.{column_of, begins, IsOffside, StandsWell}
 use Rattle.hr_grammar_cases.specs.Readings.{Reading}
 use Rattle.hr_grammar_cases.specs.Blocks.{Parts, part_then, pieces_reading, braced_reading, implicit_reading, layout_reading, block_reading}
 use Rattle.hr_grammar_cases.proofs.Stretches.{beside, Has, has_first, is_empty_at, none_empty, Text, lexemes, seen, seen_plain, seen_empty}
 use Rattle.hr_grammar_cases.proofs.Standing.{Right, Within, still_none, Known, Stands, Standing, then_stands, given_stands, ending_stands}
 use Rattle.hr_grammar_cases.proofs.StandingLexemes.{none_between, nothing_stands, one_stands}
-use Rattle.hr_grammar_cases.proofs.StandingPoints.{is_right, all_right, goes_down, least_down, opens_implicit, opens_empty, column_in, ends_in}
+use Rattle.hr_grammar_cases.proofs.StandingPoints.{is_right, goes_down, least_down, opens_implicit, opens_empty, column_in, ends_in}
 use Rattle.hr_grammar_cases.proofs.StandingPieces.{laids, pieces_laid, stretches, PartsStand, pieces_within, AtLeast, PiecesStanding, pieces_stand, Agree, pieces_end}
 
 abbrev pub block_by : {T : Type 0} → (T → Laid) → Block T → Block Laid
 block_by of block = record { layout = block.layout; pieces = laids of block.pieces }
 
 -- the block itself, among its blocks the first one
-abbrev pub the_span : BlockKind → ℕ → ℕ → Block Laid → Span
+abbrev pub the_span : BlockKind → ℕ → ℕ → Block Laid → BlockSpan
 the_span kind m start block = record {
   layout = block.layout;
   kind = kind;
@@ -60,9 +60,8 @@ implicit_offside text of kind m col start pieces us l c ends p =
       column = c ∙ column_in text start;
       empty = λ h. elim (not_above m col l h) [ ];
       parts = λ h. p.parts;
-      stands = λ h. all_right text block col block.extent start (drop start (lexemes text)) refl
-          (λ j a b. is_right text block col j
-          (subst (λ k. Right text col start (start + k) j ⊎ (AtLeast text col j × (list_any (λ s. s == j) (begins start (stretches of pieces)) ≡ true))) (sym extent) (p.each j a (omega arith))));
+      stands = λ h j a b. is_right text block col j
+          (subst (λ k. Right text col start (start + k) j ⊎ (AtLeast text col j × (list_any (λ s. s == j) (begins start (stretches of pieces)) ≡ true))) (sym extent) (p.each j a (omega arith)));
       ends = λ h. subst (λ k. ends_block col kind (last_ending (laids of pieces)) (drop (start + k) (lexemes text)) ≡ true) (sym extent)
           (ends_in text col kind (last_ending (laids of pieces)) (start + (pieces_laid of pieces).extent) us p.after ends);
     }
@@ -82,12 +81,12 @@ implicit_standing text of kind m col begun start pieces us l o p = record {
   blocks = λ span has. by span has;
 }
   where
-    by : (span : Span) → Has ((block_laid kind (implicit_block of col pieces)).blocks m start) span → StandsWell text.spans (lexemes text) span
+    by : (span : BlockSpan) → Has ((block_laid kind (implicit_block of col pieces)).blocks m start) span → StandsWell text.spans (lexemes text) span
     by span (inl same) = subst (StandsWell text.spans (lexemes text)) same o
     by span (inr has) = p.blocks span (subst (λ k. Has ((pieces_laid of pieces).blocks col k) span) (add-zero start) has)
 
 -- no block starts where the pieces of this one begin
-pub none_at_start : (text : Text) (start extent : ℕ) (spans : List Span) → ((span : Span) → Has spans span → Within false start extent span) → is_empty_at spans start ≡ false
+pub none_at_start : (text : Text) (start extent : ℕ) (spans : List BlockSpan) → ((span : BlockSpan) → Has spans span → Within false start extent span) → is_empty_at spans start ≡ false
 none_at_start text start extent spans within = none_empty spans start (λ span has same. let b = (within span has).behind in omega arith)
 
 not_empty : (m n : ℕ) → m < n → nat_le n m ≡ false
@@ -107,7 +106,7 @@ implicit_known {text = text} of kind m col start pieces l k = record {
   among = λ span has. k.among span (inr (subst (λ s. Has ((pieces_laid of pieces).blocks col s) span) (sym (add-zero start)) has));
 }
 
-pub later_known : {text : Text} {start extent : ℕ} {spans : List Span} → Known text true start extent spans → Known text false start extent spans
+pub later_known : {text : Text} {start extent : ℕ} {spans : List BlockSpan} → Known text true start extent spans → Known text false start extent spans
 later_known k = record { marks = λ i a h. k.marks i (omega arith) h; among = k.among }
 
 implicit_there : {T : Type 0} {text : Text} {of : T → Laid} {parts : Parts T} → PartsStand text of parts → (kind : BlockKind) (m : ℕ) (place : DeclPlace) (col : ℕ) (pieces : List (Piece T)) (ts us : List Placed)
@@ -150,7 +149,7 @@ empty_there text kind m col ts us opened c u begun start k e =
       blocks = λ span has. by span l has;
     }
   where
-    by : (span : Span) → col ≤ m → Has ((block_laid kind (empty_block col)).blocks m start) span → StandsWell text.spans (lexemes text) span
+    by : (span : BlockSpan) → col ≤ m → Has ((block_laid kind (empty_block col)).blocks m start) span → StandsWell text.spans (lexemes text) span
     by span l (inl same) = subst (StandsWell text.spans (lexemes text)) same (empty_offside text kind m col start [] refl l (c ∙ ap column_of e))
     by span l (inr has) = elim has [ ]
 
@@ -184,7 +183,7 @@ explicit_there : {T : Type 0} {text : Text} {of : T → Laid} {parts : Parts T} 
 explicit_there {text = text} {of = of} p kind m place left right pieces ts us r begun start k e =
     let inner = explicit_stands p m place left right pieces in
     let spans = (pieces_laid of pieces).blocks 0 (start + 1) in
-    let within : (span : Span) → Has spans span → Within false start (in_braces of left right pieces).extent span = λ span has. inner.within ts us r start span (has_first spans [] span has) in
+    let within : (span : BlockSpan) → Has spans span → Within false start (in_braces of left right pieces).extent span = λ span has. inner.within ts us r start span (has_first spans [] span has) in
     let none = k.marks start (omega arith) (omega arith) ∙ none_at_start text start (in_braces of left right pieces).extent spans within in
     let s = inner.stands ts us r false start
     (record { marks = λ i a h. k.marks i (omega arith) h ∙ ap (λ l. is_empty_at l i) (sym (append-nil spans)); among = λ span has. k.among span (inr (subst (λ l. Has l span) (append-nil spans) has)) })
@@ -205,30 +204,30 @@ explicit_there {text = text} {of = of} p kind m place left right pieces ts us r 
       blocks = λ span has. by s.blocks span has;
     }
   where
-    by : ((span : Span) → Has ((in_braces of left right pieces).blocks 0 start) span → StandsWell text.spans (lexemes text) span) → (span : Span)
+    by : ((span : BlockSpan) → Has ((in_braces of left right pieces).blocks 0 start) span → StandsWell text.spans (lexemes text) span) → (span : BlockSpan)
         → Has ((block_laid kind (explicit_block of left right pieces)).blocks m start) span → StandsWell text.spans (lexemes text) span
     by inside span (inl same) = subst (StandsWell text.spans (lexemes text)) same tt
     by inside span (inr has) = inside span (has_first ((pieces_laid of pieces).blocks 0 (start + 1)) [] span has)
 
 -- ---- any block
 -- the block itself lies where it starts, and so do those in it
-span_within : (start extent : ℕ) (span : Span) → span.start ≡ start → span.extent ≡ extent → Within true start extent span
+span_within : (start extent : ℕ) (span : BlockSpan) → span.start ≡ start → span.extent ≡ extent → Within true start extent span
 span_within start extent span s e = record { behind = omega arith; ends = omega arith }
 
-pub in_block : {start e f : ℕ} {span : Span} → e ≤ f → Within false start e span → Within true start f span
+pub in_block : {start e f : ℕ} {span : BlockSpan} → e ≤ f → Within false start e span → Within true start f span
 in_block l w = record { behind = omega (arith, w.behind); ends = omega (arith, w.ends) }
 
-pub same_within : (start extent : ℕ) (block span : Span) → block ≡ span → block.start ≡ start → block.extent ≡ extent → Within true start extent span
+pub same_within : (start extent : ℕ) (block span : BlockSpan) → block ≡ span → block.start ≡ start → block.extent ≡ extent → Within true start extent span
 same_within start extent block span same s e = subst (Within true start extent) same (span_within start extent block s e)
 
 implicit_within : {T : Type 0} {text : Text} {of : T → Laid} {parts : Parts T} → PartsStand text of parts → (kind : BlockKind) (m : ℕ) (place : DeclPlace) (col : ℕ) (pieces : List (Piece T))
-    (ts us : List Placed) → implicit_reading parts kind m place col pieces ts us → (start : ℕ) (span : Span) → Has ((pieces_laid of pieces).blocks col start) span
+    (ts us : List Placed) → implicit_reading parts kind m place col pieces ts us → (start : ℕ) (span : BlockSpan) → Has ((pieces_laid of pieces).blocks col start) span
     → Within false start (pieces_laid of pieces).extent span
 implicit_within {of = of} p kind m place col pieces ts us (inl r) start span has = elim (subst (λ ps. Has ((pieces_laid of ps).blocks col start) span) r.1 has) [ ]
 implicit_within p kind m place col pieces ts us (inr r) start span has = pieces_within p kind col place Ending.Nothing pieces ts us r.1 start span has
 
 pub within_there : {T : Type 0} {text : Text} {of : T → Laid} {parts : Parts T} → PartsStand text of parts → (kind : BlockKind) (m : ℕ) (place : DeclPlace) (layout : Layout) (pieces : List (Piece T))
-    (ts us : List Placed) → layout_reading parts kind m place layout pieces ts us → (start : ℕ) (span : Span)
+    (ts us : List Placed) → layout_reading parts kind m place layout pieces ts us → (start : ℕ) (span : BlockSpan)
     → Has ((block_laid kind (record { layout = layout; pieces = laids of pieces })).blocks m start) span
     → Within true start (block_laid kind (record { layout = layout; pieces = laids of pieces })).extent span
 within_there {of = of} p kind m place layout pieces ts us r start span (inl same) =

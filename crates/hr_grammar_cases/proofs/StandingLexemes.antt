@@ -3,10 +3,11 @@ use Rattle.std.proofs.Common.{◌≡◌, ◌⊎◌, ◌≤◌, ◌<◌, ℕ, ◌
 use Rattle.hr_base.specs.declared.lexeme.Item.{Item}
 use Rattle.hr_rules.specs.declared.block.Placed.{Placed}
 use Rattle.hr_rules.specs.Blocks.{goes_on}
-use Rattle.hr_grammar.specs.Spans.{Span, Laid, blockless, one as one_laid, row}
+use Rattle.hr_grammar.specs.Spans.{BlockSpan, Laid, blockless, one as one_laid, row}
 use Rattle.hr_grammar_cases.specs.Readings.{Reading, nothing, takes, ◌▷◌, one, take_all, in_turn}
 use Rattle.hr_grammar_cases.proofs.Taken.{Takes}
-use Rattle.hr_grammar_cases.proofs.Stretches.{beside, bare_then, Text, seen, Next, next_in, seen_plain, behind_seen, before_or_behind}
+use Rattle.hr_grammar.specs.Offside.{Next}
+use Rattle.hr_grammar_cases.proofs.Stretches.{beside, bare_then, Text, seen, next_in, seen_plain, behind_seen, before_or_behind}
 use Rattle.hr_grammar_cases.proofs.Standing.{GoesAt, Right, wider, Within, still, Known, Standing, Stands, same_stands, given_stands, then_stands}
 
 pub none_between : (start i : ℕ) → start ≤ i → i < start + 0 → ⊥
@@ -76,10 +77,10 @@ in_turn_stands laid_of of each [] = nothing_stands
 in_turn_stands laid_of of each (x ∷ xs) = then_stands (each x) (in_turn_stands laid_of of each xs)
 
 -- ---- the word that opens a block
-pub opens_known : {text : Text} {start f : ℕ} {spans : List Span} → Known text false start (1 + f) spans → Known text true (start + 1) f spans
+pub opens_known : {text : Text} {start f : ℕ} {spans : List BlockSpan} → Known text false start (1 + f) spans → Known text true (start + 1) f spans
 opens_known {start = start} k = record { marks = λ i l h. k.marks i (omega arith) (omega arith); among = k.among }
 
-pub opens_within : {start f : ℕ} {span : Span} → Within true (start + 1) f span → Within false start (1 + f) span
+pub opens_within : {start f : ℕ} {span : BlockSpan} → Within true (start + 1) f span → Within false start (1 + f) span
 opens_within w = record { behind = omega (arith, w.behind); ends = omega (arith, w.ends) }
 
 pub still_opens : (begun : Bool) (f : ℕ) → still false begun (1 + f) ≡ false

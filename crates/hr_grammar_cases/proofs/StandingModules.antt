@@ -9,7 +9,7 @@ use Rattle.hr_tree.specs.declared.expressions.Decl.{Decl}
 use Rattle.hr_tree.specs.declared.modules.Module.{Module}
 use Rattle.hr_tree.specs.Yields.{header_items, module_items}
 use Rattle.hr_grammar.specs.Nodes.{DeclPlace}
-use Rattle.hr_grammar.specs.Spans.{Span, block_laid, piece_of, spans_of}
+use Rattle.hr_grammar.specs.Spans.{BlockSpan, block_laid, piece_of, spans_of}
 use Rattle.hr_grammar.specs.Offside.{StandsWell, Offside}
 use Rattle.hr_grammar.specs.Yields.{nesting_limit}
 use Rattle.hr_grammar_cases.specs.Readings.{takes, take_all}
@@ -86,7 +86,7 @@ all_behind n (item ∷ items) ts us r =
     all_behind n items r.0 us r.2 ∙ ap (λ l. drop (length items) l) (taken_behind n item ts r.0 r.1) ∙ drop-drop (length items) 1 ts ∙ ap (λ k. drop k ts) (one-add (length items))
 
 -- the blocks of a module are those of its body
-abbrev pub body_spans : Module → List Span
+abbrev pub body_spans : Module → List BlockSpan
 body_spans tree = (block_laid BlockKind.Body (block_by laid_decl tree.body)).blocks 0 (0 + length (header_items tree.header))
 
 pub spans_are : (tree : Module) → spans_of tree ≡ body_spans tree
@@ -95,7 +95,7 @@ spans_are tree =
     (pieces_turned laid_decl piece_of (λ item. refl) (λ decl. refl) tree.body.pieces)
 
 body_stands : (levels : ℕ) (text : Text) (block : Block Decl) (start : ℕ) (ts : List Placed) → text.spans ≡ (block_laid BlockKind.Body (block_by laid_decl block)).blocks 0 start → ts ≡ drop start text.placed
-    → (derivations levels).declarations 0 DeclPlace.Top block ts [] → (span : Span) → Has ((block_laid BlockKind.Body (block_by laid_decl block)).blocks 0 start) span
+    → (derivations levels).declarations 0 DeclPlace.Top block ts [] → (span : BlockSpan) → Has ((block_laid BlockKind.Body (block_by laid_decl block)).blocks 0 start) span
     → StandsWell text.spans (lexemes text) span
 body_stands zero text block start ts same e r span has = elim r [ ]
 body_stands (suc levels) text block start ts same e r span has =

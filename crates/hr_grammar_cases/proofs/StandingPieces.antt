@@ -10,11 +10,11 @@ use Rattle.hr_rules.specs.Blocks.{mark, left_of, at_margin, starts_part, ends_bl
 use Rattle.hr_rules.proofs.Margins.{margins}
 use Rattle.hr_tree.specs.declared.lists.Piece.{Piece}
 use Rattle.hr_grammar.specs.Nodes.{DeclPlace}
-use Rattle.hr_grammar.specs.Spans.{Span, Stretch, Laid, blockless, row, piece_laid, stretch_of, last_ending}
-use Rattle.hr_grammar.specs.Offside.{IsAtMargin, PartsBegin, begins, placed_among, StandsWell}
+use Rattle.hr_grammar.specs.Spans.{BlockSpan, Stretch, Laid, blockless, row, piece_laid, stretch_of, last_ending}
+use Rattle.hr_grammar.specs.Offside.{IsAtMargin, PartsBegin, begins, placed_among, StandsWell, Next}
 use Rattle.hr_grammar_cases.specs.Blocks.{Parts, takes_semicolon, pieces_reading}
 use Rattle.hr_grammar_cases.proofs.Stops.{starts_at}
-use Rattle.hr_grammar_cases.proofs.Stretches.{beside, Has, has_either, is_empty_at, Text, lexemes, mark_or, seen, Next, lexemes_at, next_in, seen_plain, seen_begun, before_or_behind}
+use Rattle.hr_grammar_cases.proofs.Stretches.{beside, Has, has_either, is_empty_at, Text, lexemes, mark_or, seen, lexemes_at, next_in, seen_plain, seen_begun, before_or_behind}
 use Rattle.hr_grammar_cases.proofs.Standing.{Right, wider, Within, still, Known, Stands, Standing, in_second, known_first, known_second, both_within}
 use Rattle.hr_grammar_cases.proofs.StandingLexemes.{none_between, took}
 
@@ -40,7 +40,7 @@ pub record PartsStand {T : Type 0} (text : Text) (of : T → Laid) (parts : Part
 
 -- ---- where the blocks lie
 pub pieces_within : {T : Type 0} {text : Text} {of : T → Laid} {parts : Parts T} → PartsStand text of parts → (kind : BlockKind) (n : ℕ) (place : DeclPlace) (ending : Ending) (pieces : List (Piece T))
-    (ts us : List Placed) → pieces_reading parts kind n place ending pieces ts us → (start : ℕ) (span : Span) → Has ((pieces_laid of pieces).blocks n start) span
+    (ts us : List Placed) → pieces_reading parts kind n place ending pieces ts us → (start : ℕ) (span : BlockSpan) → Has ((pieces_laid of pieces).blocks n start) span
     → Within false start (pieces_laid of pieces).extent span
 pieces_within p kind n place ending [] ts us r start span has = elim has [ ]
 pieces_within {of = of} p kind n place ending (Piece.Semicolon item ∷ pieces) ts us r start span has =
@@ -87,7 +87,7 @@ semicolon_took : (text : Text) (n : ℕ) (item : Item) (start : ℕ) (ts us : Li
 semicolon_took text n item start [] us r e = elim r [ ]
 semicolon_took text n item start (next ∷ ts) us r e = took text false start next ts us r.2 e
 
-margin_among : (n : ℕ) (ending : Ending) (spans : List Span) (i : ℕ) (placed : List Placed) → ending ≢ Ending.Nothing
+margin_among : (n : ℕ) (ending : Ending) (spans : List BlockSpan) (i : ℕ) (placed : List Placed) → ending ≢ Ending.Nothing
     → starts_part n ending (mark_or (is_empty_at spans i) placed) ≡ true → IsAtMargin n (placed_among spans i placed)
 margin_among n ending spans i [] other s = let no : ⊥ = cc in elim no [ ]
 margin_among n ending spans i (next ∷ placed) other s =
@@ -113,7 +113,7 @@ part_begins of parts text kind n place ending (Piece.Part part ∷ pieces) ws us
 pub record PiecesStanding (text : Text) (n start : ℕ) (laid : Laid) (pieces : List Stretch) (us : List Placed) : Type 0 where
   pub after : us ≡ seen text false (start + laid.extent)
   pub each : (i : ℕ) → start ≤ i → i < start + laid.extent → Right text n start (start + laid.extent) i ⊎ (AtLeast text n i × (list_any (λ s. s == i) (begins start pieces) ≡ true))
-  pub blocks : (span : Span) → Has (laid.blocks n start) span → StandsWell text.spans (lexemes text) span
+  pub blocks : (span : BlockSpan) → Has (laid.blocks n start) span → StandsWell text.spans (lexemes text) span
   pub parts : PartsBegin n pieces (drop start (lexemes text))
 
 first_begins : (i start : ℕ) (rest : List ℕ) → i ≡ start → list_any (λ s. s == i) (start ∷ rest) ≡ true
@@ -171,7 +171,7 @@ part_standing text n start part laid pieces vs us l s t p = record {
     by i a h (inl c) = in_part i (s.each i a c)
     by i a h (inr c) = later text n start part.extent laid.extent pieces i (t.each i c (omega arith))
 
-    with_block : (span : Span) → Has (part.blocks n start) span ⊎ Has (laid.blocks n (start + part.extent)) span → StandsWell text.spans (lexemes text) span
+    with_block : (span : BlockSpan) → Has (part.blocks n start) span ⊎ Has (laid.blocks n (start + part.extent)) span → StandsWell text.spans (lexemes text) span
     with_block span (inl c) = s.blocks span c
     with_block span (inr c) = t.blocks span c
 

@@ -1,5 +1,5 @@
 -- The points of the layout rule: lexemes that stand right of a column, and how a block opens and ends.
-use Rattle.std.proofs.Common.{◌≡◌, ◌⊎◌, ◌≤◌, ◌<◌, ℕ, zero, suc, ◌+◌, ◌==◌, nat_lt, if◌then◌else◌, not, ◌||◌, ◌&&◌, Bool, true, false, List, [], ◌∷◌, drop, refl, sym, ap, ◌∙◌, subst, inl, inr, add-one, arith, le-leb, lt-ltb, ltb-true, ltb-false, drop-drop}
+use Rattle.std.proofs.Common.{◌≡◌, ◌⊎◌, ◌≤◌, ◌<◌, ℕ, ◌+◌, ◌==◌, nat_lt, if◌then◌else◌, not, ◌||◌, ◌&&◌, Bool, true, false, List, [], ◌∷◌, drop, refl, sym, ap, ◌∙◌, subst, inl, inr, arith, le-leb, lt-ltb, ltb-true, ltb-false}
 use Rattle.std.specs.List.{list_any}
 use Rattle.std.proofs.lemmas.Bool.{and_from, or_left, or_right}
 use Rattle.hr_base.specs.declared.lexeme.Ending.{Ending}
@@ -9,31 +9,31 @@ use Rattle.hr_rules.specs.declared.block.Opened.{Opened}
 use Rattle.hr_rules.specs.declared.block.Placed.{Placed}
 use Rattle.hr_rules.specs.Blocks.{role, is_open_brace, opens, goes_on, left_of, ends_block}
 use Rattle.hr_tree.specs.declared.lists.Layout.{Layout}
-use Rattle.hr_grammar.specs.Spans.{Span}
-use Rattle.hr_grammar.specs.Offside.{column_of, placed_among, begins, is_braced, StandsRight, AllStandRight}
-use Rattle.hr_grammar_cases.proofs.Stretches.{or_false, Has, is_empty_at, Text, lexemes, mark_or, seen, Next, lexemes_at}
+use Rattle.hr_grammar.specs.Spans.{BlockSpan}
+use Rattle.hr_grammar.specs.Offside.{column_of, placed_among, begins, is_braced, StandsRight, Next}
+use Rattle.hr_grammar_cases.proofs.Stretches.{or_false, Has, is_empty_at, Text, lexemes, mark_or, seen, lexemes_at}
 use Rattle.hr_grammar_cases.proofs.Standing.{GoesAt, Braced, Right}
 use Rattle.hr_grammar_cases.proofs.StandingPieces.{AtLeast}
 
 -- ---- lexemes in explicit braces
-abbrev pub with_layout : Span → Layout → Span
+abbrev pub with_layout : BlockSpan → Layout → BlockSpan
 with_layout span layout = record { layout = layout; kind = span.kind; enclosing = span.enclosing; start = span.start; extent = span.extent; pieces = span.pieces; ending = span.ending }
 
 or_first : (a b : Bool) → (a || false) ≡ true → (a || b) ≡ true
 or_first a b e = or_left a b (sym (or_false a) ∙ e)
 
-one_braced : (block span : Span) (i : ℕ) (left right : Item) → block.start ≤ span.start → span.start + span.extent ≤ block.start + block.extent → span.start ≤ i → i < span.start + span.extent
+one_braced : (block span : BlockSpan) (i : ℕ) (left right : Item) → block.start ≤ span.start → span.start + span.extent ≤ block.start + block.extent → span.start ≤ i → i < span.start + span.extent
     → is_braced (with_layout span (Layout.Explicit left right) ∷ []) block i ≡ true
 one_braced block span i left right a b c d =
     or_left _ false
     (and_from _ _ (and_from _ _ (le-leb block.start span.start a) (le-leb (span.start + span.extent) (block.start + block.extent) b)) (and_from _ _ (le-leb span.start i c) (lt-ltb i (span.start + span.extent) d)))
 
-braced_among : (spans : List Span) (block span : Span) (i : ℕ) → Has spans span → is_braced (span ∷ []) block i ≡ true → is_braced spans block i ≡ true
+braced_among : (spans : List BlockSpan) (block span : BlockSpan) (i : ℕ) → Has spans span → is_braced (span ∷ []) block i ≡ true → is_braced spans block i ≡ true
 braced_among [] block span i has b = elim has [ ]
 braced_among (x ∷ spans) block span i (inl same) b = or_first _ (is_braced spans block i) (subst (λ s. is_braced (s ∷ []) block i ≡ true) (sym same) b)
 braced_among (x ∷ spans) block span i (inr has) b = or_right _ (is_braced spans block i) (braced_among spans block span i has b)
 
-pub stands_braced : (text : Text) (block : Span) (i : ℕ) → Braced text block.start (block.start + block.extent) i → is_braced text.spans block i ≡ true
+pub stands_braced : (text : Text) (block : BlockSpan) (i : ℕ) → Braced text block.start (block.start + block.extent) i → is_braced text.spans block i ≡ true
 stands_braced text block i b =
     let same : with_layout b.span (Layout.Explicit b.left b.right) ≡ b.span = ap (with_layout b.span) (sym b.explicit) in
     braced_among text.spans block b.span i b.among
@@ -67,7 +67,7 @@ by_least : (n col i start : ℕ) (begin : Bool) → (n < col) ⊎ (col ≡ n) �
 by_least n col i start begin (inl l) b = inl l
 by_least n col i start begin (inr e) b = inr (inr (e, b))
 
-pub is_right : (text : Text) (block : Span) (n i : ℕ)
+pub is_right : (text : Text) (block : BlockSpan) (n i : ℕ)
     → Right text n block.start (block.start + block.extent) i ⊎ (AtLeast text n i × (list_any (λ s. s == i) (begins block.start block.pieces) ≡ true))
     → Next (StandsRight text.spans block n i) (drop i (lexemes text))
 is_right text block n i (inl (inl goes)) =
@@ -79,15 +79,6 @@ is_right text block n i (inr x) =
     next_map (λ next. left_of n next ≡ false) (StandsRight text.spans block n i) (drop i (lexemes text))
     (λ next g first braced. by_least n next.pos.col i block.start (list_any (λ s. s == i) (begins block.start block.pieces))
     (at_or_right n next.pos.col (ltb-false next.pos.col n (not_left next.first (nat_lt next.pos.col n) g first))) x.1) x.0
-
-pub all_right : (text : Text) (block : Span) (n k i : ℕ) (rest : List Placed) → rest ≡ drop i (lexemes text)
-    → ((j : ℕ) → i ≤ j → j < i + k → Next (StandsRight text.spans block n j) (drop j (lexemes text))) → AllStandRight text.spans block n i k rest
-all_right text block n zero i rest e each = tt
-all_right text block n (suc k) i [] e each = tt
-all_right text block n (suc k) i (next ∷ rest) e each = (
-  subst (Next (StandsRight text.spans block n i)) (sym e) (each i (omega arith) (omega arith)),
-  all_right text block n k (suc i) rest (ap (λ (l : List Placed). drop 1 l) e ∙ drop-drop 1 i (lexemes text) ∙ ap (λ j. drop j (lexemes text)) (add-one i)) (λ j l h. each j (omega arith) (omega arith)),
-)
 
 -- ---- inner columns exceed outer ones
 goes_outwards : (first inner outer : Bool) → (inner ≡ true → outer ≡ true) → (not first || inner) ≡ true → (not first || outer) ≡ true
@@ -142,7 +133,7 @@ pub opens_empty : (m : ℕ) (ts : List Placed) → opens m ts ≡ Opened.Empty �
 opens_empty m [] e = omega arith
 opens_empty m (next ∷ ts) e = ltb-false m next.pos.col (opened_empty (is_open_brace (role next)) (nat_lt m next.pos.col) next.pos.col e)
 
-column_among : (spans : List Span) (i : ℕ) (placed : List Placed) → column_of placed ≡ column_of (placed_among spans i placed)
+column_among : (spans : List BlockSpan) (i : ℕ) (placed : List Placed) → column_of placed ≡ column_of (placed_among spans i placed)
 column_among spans i [] = refl
 column_among spans i (next ∷ placed) = refl
 
@@ -150,7 +141,7 @@ pub column_in : (text : Text) (i : ℕ) → column_of (drop i text.placed) ≡ c
 column_in text i = column_among text.spans i (drop i text.placed) ∙ ap column_of (sym (lexemes_at text i))
 
 -- ---- what is behind a block
-ends_listed : (n : ℕ) (kind : BlockKind) (ending : Ending) (spans : List Span) (i : ℕ) (placed : List Placed)
+ends_listed : (n : ℕ) (kind : BlockKind) (ending : Ending) (spans : List BlockSpan) (i : ℕ) (placed : List Placed)
     → ends_block n kind ending (mark_or (is_empty_at spans i) placed) ≡ true → ends_block n kind ending (placed_among spans i placed) ≡ true
 ends_listed n kind ending spans i [] e = e
 ends_listed n kind ending spans i (next ∷ placed) e = e

@@ -6,8 +6,8 @@ use Rattle.hr_base.specs.declared.lexeme.Ending.{Ending}
 use Rattle.hr_base.specs.declared.lexeme.Item.{Item}
 use Rattle.hr_rules.specs.declared.block.Placed.{Placed}
 use Rattle.hr_rules.specs.Blocks.{mark}
-use Rattle.hr_grammar.specs.Spans.{Span, Laid, blockless, one, ◌▷◌}
-use Rattle.hr_grammar.specs.Offside.{is_left_empty, placed_among}
+use Rattle.hr_grammar.specs.Spans.{BlockSpan, Laid, blockless, one, ◌▷◌}
+use Rattle.hr_grammar.specs.Offside.{is_left_empty, placed_among, Next}
 
 -- one stretch behind another
 abbrev pub beside : Laid → Laid → Laid
@@ -22,11 +22,11 @@ bare_then item items = (λ j. record { extent = one-add (length items) j; ending
     either_way false = refl
 
 -- ---- blocks among others
-abbrev pub Has : List Span → Span → Type 0
+abbrev pub Has : List BlockSpan → BlockSpan → Type 0
 Has [] span = ⊥
 Has (first ∷ rest) span = (first ≡ span) ⊎ Has rest span
 
-pub has_either : (first second : List Span) (span : Span) → Has (first ++ second) span → Has first span ⊎ Has second span
+pub has_either : (first second : List BlockSpan) (span : BlockSpan) → Has (first ++ second) span → Has first span ⊎ Has second span
 has_either [] second span h = inr h
 has_either (x ∷ first) second span (inl e) = inl (inl e)
 has_either (x ∷ first) second span (inr h) = by (has_either first second span h)
@@ -35,29 +35,29 @@ has_either (x ∷ first) second span (inr h) = by (has_either first second span 
     by (inl a) = inl (inr a)
     by (inr a) = inr a
 
-pub has_first : (first second : List Span) (span : Span) → Has first span → Has (first ++ second) span
+pub has_first : (first second : List BlockSpan) (span : BlockSpan) → Has first span → Has (first ++ second) span
 has_first [] second span h = elim h [ ]
 has_first (x ∷ first) second span (inl e) = inl e
 has_first (x ∷ first) second span (inr h) = inr (has_first first second span h)
 
-pub has_second : (first second : List Span) (span : Span) → Has second span → Has (first ++ second) span
+pub has_second : (first second : List BlockSpan) (span : BlockSpan) → Has second span → Has (first ++ second) span
 has_second [] second span h = h
 has_second (x ∷ first) second span h = inr (has_second first second span h)
 
-pub all_are : (P : Span → Type 0) (spans : List Span) → ((span : Span) → Has spans span → P span) → AllByRecursion P spans
+pub all_are : (P : BlockSpan → Type 0) (spans : List BlockSpan) → ((span : BlockSpan) → Has spans span → P span) → AllByRecursion P spans
 all_are P [] each = tt
 all_are P (x ∷ spans) each = (each x (inl refl), all_are P spans (λ span h. each span (inr h)))
 
 -- ---- blocks that are left empty
 -- a block that is left empty starts there
-abbrev pub is_empty_at : List Span → ℕ → Bool
-is_empty_at spans i = list_any (λ (span : Span). is_left_empty span && (span.start == i)) spans
+abbrev pub is_empty_at : List BlockSpan → ℕ → Bool
+is_empty_at spans i = list_any (λ (span : BlockSpan). is_left_empty span && (span.start == i)) spans
 
 or_three : (a b c : Bool) → (a || (b || c)) ≡ ((a || b) || c)
 or_three true b c = refl
 or_three false b c = refl
 
-empty_either : (first second : List Span) (i : ℕ) → is_empty_at (first ++ second) i ≡ (is_empty_at first i || is_empty_at second i)
+empty_either : (first second : List BlockSpan) (i : ℕ) → is_empty_at (first ++ second) i ≡ (is_empty_at first i || is_empty_at second i)
 empty_either [] second i = refl
 empty_either (x ∷ first) second i =
     ap (λ t. (is_left_empty x && (x.start == i)) || t) (empty_either first second i) ∙ or_three (is_left_empty x && (x.start == i)) (is_empty_at first i) (is_empty_at second i)
@@ -66,23 +66,23 @@ pub or_false : (b : Bool) → (b || false) ≡ b
 or_false true = refl
 or_false false = refl
 
-pub none_empty : (spans : List Span) (i : ℕ) → ((span : Span) → Has spans span → span.start ≡ i → ⊥) → is_empty_at spans i ≡ false
+pub none_empty : (spans : List BlockSpan) (i : ℕ) → ((span : BlockSpan) → Has spans span → span.start ≡ i → ⊥) → is_empty_at spans i ≡ false
 none_empty [] i apart = refl
 none_empty (x ∷ spans) i apart =
     ap₂ (λ (s t : Bool). (is_left_empty x && s) || t) (ne_eqb x.start i (apart x (inl refl))) (none_empty spans i (λ span h. apart span (inr h)))
     ∙ ap (λ s. s || false) (and_right (is_left_empty x) false refl)
 
-pub empty_first : (first second : List Span) (i : ℕ) → ((span : Span) → Has second span → span.start ≡ i → ⊥) → is_empty_at (first ++ second) i ≡ is_empty_at first i
+pub empty_first : (first second : List BlockSpan) (i : ℕ) → ((span : BlockSpan) → Has second span → span.start ≡ i → ⊥) → is_empty_at (first ++ second) i ≡ is_empty_at first i
 empty_first first second i apart = empty_either first second i ∙ ap (λ t. is_empty_at first i || t) (none_empty second i apart) ∙ or_false (is_empty_at first i)
 
-pub empty_second : (first second : List Span) (i : ℕ) → ((span : Span) → Has first span → span.start ≡ i → ⊥) → is_empty_at (first ++ second) i ≡ is_empty_at second i
+pub empty_second : (first second : List BlockSpan) (i : ℕ) → ((span : BlockSpan) → Has first span → span.start ≡ i → ⊥) → is_empty_at (first ++ second) i ≡ is_empty_at second i
 empty_second first second i apart = empty_either first second i ∙ ap (λ t. t || is_empty_at second i) (none_empty first i apart)
 
 -- ---- a text
 -- the lexemes of a text with their places, and the blocks of its tree
 pub record Text : Type 0 where
   pub placed : List Placed
-  pub spans : List Span
+  pub spans : List BlockSpan
 
 abbrev pub lexemes : Text → List Placed
 lexemes text = placed_among text.spans 0 text.placed
@@ -97,12 +97,7 @@ abbrev pub seen : Text → Bool → ℕ → List Placed
 seen text true i = mark false (drop i text.placed)
 seen text false i = mark_or (is_empty_at text.spans i) (drop i text.placed)
 
--- what holds of the next lexeme, if there is one
-abbrev pub Next : (Placed → Type 0) → List Placed → Type 0
-Next P [] = Unit {0}
-Next P (next ∷ rest) = P next
-
-drop_among : (spans : List Span) (i k : ℕ) (placed : List Placed) → drop i (placed_among spans k placed) ≡ placed_among spans (i + k) (drop i placed)
+drop_among : (spans : List BlockSpan) (i k : ℕ) (placed : List Placed) → drop i (placed_among spans k placed) ≡ placed_among spans (i + k) (drop i placed)
 drop_among spans zero k placed = ap (λ j. placed_among spans j placed) (sym (zero-add k))
 drop_among spans (suc i) k [] = refl
 drop_among spans (suc i) k (next ∷ placed) = drop_among spans i (suc k) placed ∙ ap (λ j. placed_among spans j (drop i placed)) (add-suc i k ∙ sym (suc-add i k))
@@ -110,7 +105,7 @@ drop_among spans (suc i) k (next ∷ placed) = drop_among spans i (suc k) placed
 pub lexemes_at : (text : Text) (i : ℕ) → drop i (lexemes text) ≡ placed_among text.spans i (drop i text.placed)
 lexemes_at text i = drop_among text.spans i 0 text.placed ∙ ap (λ j. placed_among text.spans j (drop i text.placed)) (add-zero i)
 
-next_among : (P : Placed → Type 0) (spans : List Span) (i : ℕ) (placed : List Placed) → Next P (mark_or (is_empty_at spans i) placed) → Next P (placed_among spans i placed)
+next_among : (P : Placed → Type 0) (spans : List BlockSpan) (i : ℕ) (placed : List Placed) → Next P (mark_or (is_empty_at spans i) placed) → Next P (placed_among spans i placed)
 next_among P spans i [] h = h
 next_among P spans i (next ∷ placed) h = h
 

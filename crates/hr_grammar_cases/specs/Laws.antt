@@ -1,5 +1,5 @@
 -- Laws of the relation.
-use Rattle.std.specs.Prelude.{ℕ, ◌≡◌, ◌≢◌, ◌⊎◌, ◌<◌, Bool, true, List, ◌++◌, map, length, drop, Option}
+use Rattle.std.specs.Prelude.{ℕ, ◌≡◌, ◌≢◌, ◌⊎◌, ◌<◌, ◌≤◌, Bool, true, List, ◌++◌, map, length, drop, Option}
 use Rattle.hr_base.specs.declared.lexeme.Ending.{Ending}
 use Rattle.hr_base.specs.declared.lexeme.Item.{Item}
 use Rattle.hr_rules.specs.declared.block.Placed.{Placed}
@@ -88,12 +88,17 @@ pub record ModulesAre : Type 0 where
   pub grammar : (levels : ℕ) (tree : Module) (items : List Item) → Derives levels tree items → IsModule levels tree
   pub yields : (tree : Module) (items : List Item) → Derives nesting_limit tree items → Yields tree (record { list = items; tail = tree.tail })
 
--- what is read of types, patterns and expressions is a lexeme or more
+-- what is read of types, patterns, expressions, declarations and alternatives is a lexeme or more, and a block leaves no
+-- more lexemes than there were
 pub record ReadingsShrink : Type 0 where
   pub types : (levels n : ℕ) (place : TyPlace) (ty : Ty) (ts us : List Placed) → (derivations levels).ty n place ty ts us → length us < length ts
   pub patterns : (levels n : ℕ) (place : PatPlace) (pat : Pat) (ts us : List Placed) → (derivations levels).pat n place pat ts us → length us < length ts
   pub expressions : (levels n : ℕ) (free : Colons) (place : ExpPlace) (exp : Exp) (ending : Ending) (ts us : List Placed)
       → (derivations levels).exp n free place exp ending ts us → length us < length ts
+  pub declarations : (levels n : ℕ) (place : DeclPlace) (decl : Decl) (ending : Ending) (ts us : List Placed) → (derivations levels).decl n place decl ending ts us → length us < length ts
+  pub alternatives : (levels n : ℕ) (alt : Alt) (ending : Ending) (ts us : List Placed) → (derivations levels).alt n alt ending ts us → length us < length ts
+  pub declaration_blocks : (levels m : ℕ) (place : DeclPlace) (block : Block Decl) (ts us : List Placed) → (derivations levels).declarations m place block ts us → length us ≤ length ts
+  pub alternative_blocks : (levels m : ℕ) (block : Block Alt) (ts us : List Placed) → (derivations levels).alternatives m block ts us → length us ≤ length ts
 
 -- where the pieces of a block go on or end behind a part, nothing can go on in the part
 pub record PiecesStop : Type 0 where

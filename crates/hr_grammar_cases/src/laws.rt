@@ -38,7 +38,8 @@ pub fn modules_are()
     ensures { ModulesAre }
 {}
 
-/// What is read of types, patterns and expressions is a lexeme or more.
+/// What is read of a type, a pattern, an expression, a declaration or an alternative is a lexeme or more, and a
+/// block leaves no more lexemes than there were.
 pub fn readings_shrink()
     ensures { ReadingsShrink }
 {}

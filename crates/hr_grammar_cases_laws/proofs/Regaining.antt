@@ -10,12 +10,12 @@ use Rattle.hr_rules.specs.declared.block.Placed.{Placed}
 use Rattle.hr_rules.specs.Blocks.{mark, goes_on, is_open_brace}
 use Rattle.hr_rules.specs.Roles.{role_by, role_of}
 use Rattle.hr_grammar.specs.Words.{IsOf, IsText}
-use Rattle.hr_grammar.specs.Spans.{Span, Laid, blockless, one as one_laid, ending_as}
-use Rattle.hr_grammar.specs.Offside.{placed_among, StandsWell}
+use Rattle.hr_grammar.specs.Spans.{BlockSpan, Laid, blockless, one as one_laid, ending_as}
+use Rattle.hr_grammar.specs.Offside.{placed_among, StandsWell, Next}
 use Rattle.hr_grammar_cases.specs.Readings.{Reading, nothing, takes, ◌▷◌, given, one, take_all}
 use Rattle.hr_grammar_cases.specs.Laws.{items_left}
 use Rattle.hr_grammar_cases.proofs.Readings.{append_assoc}
-use Rattle.hr_grammar_cases.proofs.Stretches.{beside, bare_then, Has, has_either, has_first, has_second, is_empty_at, Text, lexemes, mark_or, seen, Next, lexemes_at, seen_plain}
+use Rattle.hr_grammar_cases.proofs.Stretches.{beside, bare_then, Has, has_either, has_first, has_second, is_empty_at, Text, lexemes, mark_or, seen, lexemes_at, seen_plain}
 use Rattle.hr_grammar_cases.proofs.Standing.{GoesAt, least, least_next, Within, before, still, still_both, Known, known_first, known_second, both_within}
 use Rattle.hr_grammar_cases.proofs.StandingLexemes.{still_opens, opens_known, opens_within}
 use Rattle.hr_grammar_cases_laws.proofs.Retaken.{Retakes}
@@ -55,13 +55,13 @@ sum_size e f items others s t = ap₂ (λ (a b : ℕ). a + b) s t ∙ sym (lengt
 
 -- ---- lexemes
 -- the lexeme of that number stands in one of the blocks
-pub record Covered (spans : List Span) (i : ℕ) : Type 0 where
-  pub span : Span
+pub record Covered (spans : List BlockSpan) (i : ℕ) : Type 0 where
+  pub span : BlockSpan
   pub among : Has spans span
   pub behind : span.start ≤ i
   pub before : i < span.start + span.extent
 
-abbrev pub Held : Text → ℕ → List Span → ℕ → Type 0
+abbrev pub Held : Text → ℕ → List BlockSpan → ℕ → Type 0
 Held text n spans i = GoesAt text n i ⊎ Covered spans i
 
 -- a part begins with it, and with the stretch
@@ -72,8 +72,8 @@ BeginsAt opened begun start i = (i ≡ start) × (still opened begun 0 ≡ true)
 -- each of its lexemes goes on, or stands in one of its blocks, or is one of the others
 pub record Given (text : Text) (n : ℕ) (opened : Bool) (start : ℕ) (laid : Laid) (items rest : List Item) (Other : ℕ → Type 0) : Type 0 where
   pub known : Known text opened start laid.extent (laid.blocks n start)
-  pub owned : (span : Span) → Has text.spans span → least opened start ≤ span.start → span.start ≤ start + laid.extent → Has (laid.blocks n start) span
-  pub stands : (span : Span) → Has (laid.blocks n start) span → StandsWell text.spans (lexemes text) span
+  pub owned : (span : BlockSpan) → Has text.spans span → least opened start ≤ span.start → span.start ≤ start + laid.extent → Has (laid.blocks n start) span
+  pub stands : (span : BlockSpan) → Has (laid.blocks n start) span → StandsWell text.spans (lexemes text) span
   pub each : (i : ℕ) → start ≤ i → i < start + laid.extent → Held text n (laid.blocks n start) i ⊎ Other i
   pub items_are : items_left (drop start text.placed) ≡ items ++ rest
   -- behind a block stands no `{`
@@ -81,7 +81,7 @@ pub record Given (text : Text) (n : ℕ) (opened : Bool) (start : ℕ) (laid : L
 
 pub record Regains (text : Text) (n : ℕ) (opened : Bool) (laid : Laid) (items : List Item) (reading : Reading) : Type 0 where
   pub size : laid.extent ≡ length items
-  pub within : (start : ℕ) (span : Span) → Has (laid.blocks n start) span → Within opened start laid.extent span
+  pub within : (start : ℕ) (span : BlockSpan) → Has (laid.blocks n start) span → Within opened start laid.extent span
   pub regains : (begun : Bool) (start : ℕ) (rest : List Item) → Given text n opened start laid items rest (BeginsAt opened begun start)
       → reading (before text opened begun start) (seen text (still opened begun laid.extent) (start + laid.extent))
 
@@ -113,11 +113,11 @@ ending_regains ending {text} {n} {opened} {laid} s = record {
 }
 
 -- ---- one stretch behind another
-none_first : (first second : List Span) → first ++ second ≡ [] → first ≡ []
+none_first : (first second : List BlockSpan) → first ++ second ≡ [] → first ≡ []
 none_first [] second e = refl
 none_first (x ∷ first) second e = let no : ⊥ = cc in elim no [ ]
 
-none_second : (first second : List Span) → first ++ second ≡ [] → second ≡ []
+none_second : (first second : List BlockSpan) → first ++ second ≡ [] → second ≡ []
 none_second [] second e = e
 none_second (x ∷ first) second e = let no : ⊥ = cc in elim no [ ]
 
@@ -126,7 +126,7 @@ abbrev pub Cut : Laid → List Item → ℕ → Type 0
 Cut laid others n = ((start : ℕ) → laid.blocks n start ≡ []) ⊎ Firm others
 
 pub given_first : {text : Text} {n : ℕ} {opened : Bool} {start : ℕ} {Other First : ℕ → Type 0} (items others rest : List Item) (a b : Laid) → Cut a others n
-    → ((span : Span) → Has (b.blocks n (start + a.extent)) span → Within false (start + a.extent) b.extent span)
+    → ((span : BlockSpan) → Has (b.blocks n (start + a.extent)) span → Within false (start + a.extent) b.extent span)
     → ((i : ℕ) → i < start + a.extent → Other i → First i) → Given text n opened start (beside a b) (items ++ others) rest Other → Given text n opened start a items (others ++ rest) First
 given_first {text} {n} {opened} {start} {Other} {First} items others rest a b cut w turn k = record {
   known = known_first (a.blocks n start) (b.blocks n (start + a.extent)) w k.known;
@@ -137,7 +137,7 @@ given_first {text} {n} {opened} {start} {Other} {First} items others rest a b cu
   clear = clear_by cut k.clear;
 }
   where
-    own : (span : Span) → span.start ≤ start + a.extent → Has (a.blocks n start) span ⊎ Has (b.blocks n (start + a.extent)) span → Has (a.blocks n start) span
+    own : (span : BlockSpan) → span.start ≤ start + a.extent → Has (a.blocks n start) span ⊎ Has (b.blocks n (start + a.extent)) span → Has (a.blocks n start) span
     own span h (inl c) = c
     own span h (inr c) = let m = (w span c).behind in let no : ⊥ = omega arith in elim no [ ]
 
@@ -162,7 +162,7 @@ moved false begun start zero i l same s = (omega arith, s)
 moved false begun start (suc e) i l same s = let no : ⊥ = omega arith in elim no [ ]
 
 pub given_second : {text : Text} {n : ℕ} {opened : Bool} {start : ℕ} {Other Second : ℕ → Type 0} (items others rest : List Item) (a b : Laid) → a.extent ≡ length items
-    → ((span : Span) → Has (a.blocks n start) span → Within opened start a.extent span)
+    → ((span : BlockSpan) → Has (a.blocks n start) span → Within opened start a.extent span)
     → ((i : ℕ) → start + a.extent ≤ i → Other i → Second i) → Given text n opened start (beside a b) (items ++ others) rest Other → Given text n false (start + a.extent) b others rest Second
 given_second {text} {n} {opened} {start} {Other} {Second} items others rest a b size w turn k = record {
   known = known_second (a.blocks n start) (b.blocks n (start + a.extent)) w k.known;
@@ -174,7 +174,7 @@ given_second {text} {n} {opened} {start} {Other} {Second} items others rest a b 
   clear = clear_by k.clear;
 }
   where
-    own : (span : Span) → suc (start + a.extent) ≤ span.start → Has (a.blocks n start) span ⊎ Has (b.blocks n (start + a.extent)) span → Has (b.blocks n (start + a.extent)) span
+    own : (span : BlockSpan) → suc (start + a.extent) ≤ span.start → Has (a.blocks n start) span ⊎ Has (b.blocks n (start + a.extent)) span → Has (b.blocks n (start + a.extent)) span
     own span l (inl c) = let m = (w span c).ends in let no : ⊥ = omega arith in elim no [ ]
     own span l (inr c) = c
 
@@ -217,7 +217,7 @@ nothing_regains {text} {n} = record {
     none_more : (i : ℕ) → i + 0 ≡ i
     none_more i = omega arith
 
-among_next : (P : Placed → Type 0) (spans : List Span) (i : ℕ) (placed : List Placed) → Next P (placed_among spans i placed) → Next P (mark_or (is_empty_at spans i) placed)
+among_next : (P : Placed → Type 0) (spans : List BlockSpan) (i : ℕ) (placed : List Placed) → Next P (placed_among spans i placed) → Next P (mark_or (is_empty_at spans i) placed)
 among_next P spans i [] h = h
 among_next P spans i (next ∷ placed) h = h
 
@@ -298,7 +298,7 @@ given_opened {text} {n} {begun} {start} {items} {rest} word b k = record {
     at i l (inl h) = inl h
     at i l (inr x) = let same = x.0 in let no : ⊥ = omega arith in elim no [ ]
 
-word_goes : (text : Text) (n : ℕ) (begun : Bool) (start f : ℕ) (spans : List Span) → ((span : Span) → Has spans span → Within true (start + 1) f span) → Held text n spans start ⊎ BeginsAt false begun start start
+word_goes : (text : Text) (n : ℕ) (begun : Bool) (start f : ℕ) (spans : List BlockSpan) → ((span : BlockSpan) → Has spans span → Within true (start + 1) f span) → Held text n spans start ⊎ BeginsAt false begun start start
     → GoesAt text n start ⊎ (begun ≡ true)
 word_goes text n begun start f spans w (inl (inl g)) = inl g
 word_goes text n begun start f spans w (inl (inr c)) = let m = (w c.span c.among).behind in let l = c.behind in let no : ⊥ = omega arith in elim no [ ]

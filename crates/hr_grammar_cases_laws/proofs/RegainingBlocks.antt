@@ -1,5 +1,5 @@
 -- A block that stands as the layout rule says is read, if its parts are.
-use Rattle.std.proofs.Common.{◌≡◌, ◌≢◌, ◌⊎◌, ◌≤◌, ◌<◌, ℕ, zero, suc, ◌+◌, ◌==◌, ◌||◌, ◌&&◌, not, nat_lt, nat_le, Bool, true, false, if◌then◌else◌, List, [], ◌∷◌, ◌++◌, length, drop, refl, sym, ap, ap₂, ◌∙◌, subst, inl, inr, arith, lt-ltb, ltb-true, ltb-false, leb-true, eq-eqb, drop-drop, append-nil}
+use Rattle.std.proofs.Common.{◌≡◌, ◌≢◌, ◌⊎◌, ◌≤◌, ◌<◌, ℕ, suc, ◌+◌, ◌==◌, ◌||◌, ◌&&◌, not, nat_lt, nat_le, Bool, true, false, if◌then◌else◌, List, [], ◌∷◌, ◌++◌, length, drop, refl, sym, ap, ap₂, ◌∙◌, subst, inl, inr, arith, lt-ltb, ltb-true, ltb-false, leb-true, eq-eqb, append-nil}
 use Rattle.std.specs.List.{flat_map, list_any}
 use lib.Chars.{codes}
 use Rattle.hr_base.specs.declared.lexeme.Class.{Class}
@@ -16,11 +16,11 @@ use Rattle.hr_tree.specs.Lists.{piece_items, block_items, opening_items, closing
 use Rattle.hr_grammar.specs.Blocks.{AreBraced}
 use Rattle.hr_grammar.specs.Words.{IsLeftBrace, IsRightBrace}
 use Rattle.hr_grammar.specs.Nodes.{DeclPlace}
-use Rattle.hr_grammar.specs.Spans.{Span, Stretch, stretch_length, Laid, block_laid, last_ending}
-use Rattle.hr_grammar.specs.Offside.{column_of, placed_among, begins, is_braced, StandsRight, AllStandRight, IsOffside}
+use Rattle.hr_grammar.specs.Spans.{BlockSpan, Stretch, stretch_length, Laid, block_laid, last_ending}
+use Rattle.hr_grammar.specs.Offside.{column_of, placed_among, begins, is_braced, StandsRight, Next, IsOffside}
 use Rattle.hr_grammar_cases.specs.Blocks.{Parts, pieces_reading, implicit_reading, layout_reading, block_reading}
 use Rattle.hr_grammar_cases.specs.Laws.{items_left}
-use Rattle.hr_grammar_cases.proofs.Stretches.{Has, has_first, is_empty_at, Text, lexemes, mark_or, seen, Next, lexemes_at, seen_plain, seen_empty}
+use Rattle.hr_grammar_cases.proofs.Stretches.{Has, has_first, is_empty_at, Text, lexemes, mark_or, seen, lexemes_at, seen_plain, seen_empty}
 use Rattle.hr_grammar_cases.proofs.Standing.{GoesAt, Within, still_none}
 use Rattle.hr_grammar_cases.proofs.StandingPieces.{laids, pieces_laid, stretches, last_is}
 use Rattle.hr_grammar_cases.proofs.StandingPoints.{with_layout, column_in}
@@ -28,37 +28,8 @@ use Rattle.hr_grammar_cases.proofs.StandingBlocks.{block_by, the_span, implicit_
 use Rattle.hr_grammar_cases_laws.proofs.Regaining.{NoBrace, text_firm, sum_size, Covered, BeginsAt, Given, Regains, then_regains, one_regains, one_then_regains}
 use Rattle.hr_grammar_cases_laws.proofs.RegainingPieces.{PartsRegain, EndsAlike, PiecesFit, pieces_firm, pieces_size, pieces_lie, PieceAt, Closes, pieces_regain, braced_regain}
 
--- ---- point 3, lexeme by lexeme
-none_left : (i j : ℕ) (ts : List Placed) → drop i ts ≡ [] → i ≤ j → drop j ts ≡ []
-none_left zero zero ts e l = e
-none_left zero (suc j) [] e l = refl
-none_left zero (suc j) (next ∷ ts) e l = let no : ⊥ = cc in elim no [ ]
-none_left (suc i) zero ts e l = let no : ⊥ = omega arith in elim no [ ]
-none_left (suc i) (suc j) [] e l = refl
-none_left (suc i) (suc j) (next ∷ ts) e l = none_left i j ts e (omega arith)
-
-right_at : (text : Text) (block : Span) (n k i : ℕ) (rest : List Placed) → rest ≡ drop i (lexemes text) → AllStandRight text.spans block n i k rest → (j : ℕ) → i ≤ j → j < i + k
-    → Next (StandsRight text.spans block n j) (drop j (lexemes text))
-right_at text block n zero i rest e all j l h = let no : ⊥ = omega arith in elim no [ ]
-right_at text block n (suc k) i [] e all j l h = subst (Next (StandsRight text.spans block n j)) (sym (none_left i j (lexemes text) (sym e) l)) tt
-right_at text block n (suc k) i (next ∷ rest) e all j l h =
-    by (nat_lt i j) refl (right_at text block n k (suc i) rest behind all.1)
-  where
-    one_more : (m : ℕ) → m + 1 ≡ suc m
-    one_more m = omega arith
-
-    behind : rest ≡ drop (suc i) (lexemes text)
-    behind = ap (λ (ts : List Placed). drop 1 ts) e ∙ drop-drop 1 i (lexemes text) ∙ ap (λ m. drop m (lexemes text)) (one_more i)
-
-    here : j ≡ i → Next (StandsRight text.spans block n j) (drop j (lexemes text))
-    here same = subst (λ m. Next (StandsRight text.spans block n m) (drop m (lexemes text))) (sym same) (subst (Next (StandsRight text.spans block n i)) e all.0)
-
-    by : (t : Bool) → nat_lt i j ≡ t → ((m : ℕ) → suc i ≤ m → m < suc i + k → Next (StandsRight text.spans block n m) (drop m (lexemes text))) → Next (StandsRight text.spans block n j) (drop j (lexemes text))
-    by true s later = let lt = ltb-true i j s in later j (omega arith) (omega arith)
-    by false s later = let ge = ltb-false i j s in here (omega arith)
-
 -- ---- lexemes in explicit braces
-braced_in : (spans : List Span) (block : Span) (i : ℕ) → is_braced spans block i ≡ true → (span : Span) × Has spans span × (is_braced (span ∷ []) block i ≡ true)
+braced_in : (spans : List BlockSpan) (block : BlockSpan) (i : ℕ) → is_braced spans block i ≡ true → (span : BlockSpan) × Has spans span × (is_braced (span ∷ []) block i ≡ true)
 braced_in [] block i e = let no : ⊥ = cc in elim no [ ]
 braced_in (x ∷ spans) block i e = by (is_braced (x ∷ []) block i) refl (braced_in spans block i)
   where
@@ -66,8 +37,8 @@ braced_in (x ∷ spans) block i e = by (is_braced (x ∷ []) block i) refl (brac
     or_left true b f t = let no : ⊥ = cc in elim no [ ]
     or_left false b f t = t
 
-    by : (t : Bool) → is_braced (x ∷ []) block i ≡ t → (is_braced spans block i ≡ true → (span : Span) × Has spans span × (is_braced (span ∷ []) block i ≡ true))
-        → (span : Span) × Has (x ∷ spans) span × (is_braced (span ∷ []) block i ≡ true)
+    by : (t : Bool) → is_braced (x ∷ []) block i ≡ t → (is_braced spans block i ≡ true → (span : BlockSpan) × Has spans span × (is_braced (span ∷ []) block i ≡ true))
+        → (span : BlockSpan) × Has (x ∷ spans) span × (is_braced (span ∷ []) block i ≡ true)
     by true s later = (x, inl refl, s)
     by false s later = let r = later (or_left _ (is_braced spans block i) s e) in (r.0, inr r.1, r.2)
 
@@ -79,7 +50,7 @@ four_of true true false d e = let no : ⊥ = cc in elim no [ ]
 four_of true true true false e = let no : ⊥ = cc in elim no [ ]
 
 -- it stands in a span with braces that lies in the block
-pub record Inside (block span : Span) (i : ℕ) : Type 0 where
+pub record Inside (block span : BlockSpan) (i : ℕ) : Type 0 where
   pub explicit : (col : ℕ) → span.layout ≢ Layout.Implicit col
   pub lowest : block.start ≤ span.start
   pub highest : span.start + span.extent ≤ block.start + block.extent
@@ -89,14 +60,14 @@ pub record Inside (block span : Span) (i : ℕ) : Type 0 where
 is_explicit : (left right : Item) (col : ℕ) → Layout.Explicit left right ≢ Layout.Implicit col
 is_explicit left right col = λ e. cc
 
-one_inside : (block span : Span) (i : ℕ) (layout : Layout) → span.layout ≡ layout → is_braced (with_layout span layout ∷ []) block i ≡ true → Inside block span i
+one_inside : (block span : BlockSpan) (i : ℕ) (layout : Layout) → span.layout ≡ layout → is_braced (with_layout span layout ∷ []) block i ≡ true → Inside block span i
 one_inside block span i (Layout.Implicit col) same e = let no : ⊥ = cc in elim no [ ]
 one_inside block span i (Layout.Explicit left right) same e =
     let f = four_of (nat_le block.start span.start) (nat_le (span.start + span.extent) (block.start + block.extent)) (nat_le span.start i) (nat_lt i (span.start + span.extent)) e in
     record { explicit = λ col other. is_explicit left right col (sym same ∙ other); lowest = leb-true block.start span.start f.0; highest = leb-true (span.start + span.extent) (block.start + block.extent) f.1; behind = leb-true span.start i f.2; before = ltb-true i (span.start + span.extent) f.3 }
 
 -- ---- what a block without braces says of its lexemes
-stands_held : (text : Text) (block : Span) (n i : ℕ) (spans : List Span) → ((span : Span) → Has text.spans span → Inside block span i → Has spans span) → (n ≡ column_of (drop block.start (lexemes text)))
+stands_held : (text : Text) (block : BlockSpan) (n i : ℕ) (spans : List BlockSpan) → ((span : BlockSpan) → Has text.spans span → Inside block span i → Has spans span) → (n ≡ column_of (drop block.start (lexemes text)))
     → (ts : List Placed) → ts ≡ drop i (lexemes text) → (i ≡ block.start → list_any (λ s. s == i) (begins block.start block.pieces) ≡ true) → Next (StandsRight text.spans block n i) ts
     → (Next (λ next. goes_on n next ≡ true) ts ⊎ Covered spans i) ⊎ (Next (λ next. left_of n next ≡ false) ts × (list_any (λ s. s == i) (begins block.start block.pieces) ≡ true))
 stands_held text block n i spans own column [] e starts s = inl (inl tt)
@@ -158,7 +129,7 @@ empty_here m col items (next ∷ ts) e nb l c =
     not_right false f = f
 
 -- ---- what is behind a block
-ends_seen : (n : ℕ) (kind : BlockKind) (ending : Ending) (spans : List Span) (i : ℕ) (placed : List Placed) → ends_block n kind ending (placed_among spans i placed) ≡ true
+ends_seen : (n : ℕ) (kind : BlockKind) (ending : Ending) (spans : List BlockSpan) (i : ℕ) (placed : List Placed) → ends_block n kind ending (placed_among spans i placed) ≡ true
     → ends_block n kind ending (mark_or (is_empty_at spans i) placed) ≡ true
 ends_seen n kind ending spans i [] e = e
 ends_seen n kind ending spans i (next ∷ placed) e = e
@@ -170,14 +141,14 @@ ends_there text n kind ending i e = ends_seen n kind ending text.spans i (drop i
 none_more : (k : ℕ) → k + 0 ≡ k
 none_more k = omega arith
 
-other_start : (start extent : ℕ) (kind : BlockKind) (m : ℕ) (block : Block Laid) (spans : List Span) (span : Span) → suc start ≤ span.start → Has (the_span kind m start block ∷ spans) span → Has spans span
-other_start start extent kind m block spans span l (inl same) = let e : start ≡ span.start = ap (λ (s : Span). s.start) same in let no : ⊥ = omega arith in elim no [ ]
+other_start : (start extent : ℕ) (kind : BlockKind) (m : ℕ) (block : Block Laid) (spans : List BlockSpan) (span : BlockSpan) → suc start ≤ span.start → Has (the_span kind m start block ∷ spans) span → Has spans span
+other_start start extent kind m block spans span l (inl same) = let e : start ≡ span.start = ap (λ (s : BlockSpan). s.start) same in let no : ⊥ = omega arith in elim no [ ]
 other_start start extent kind m block spans span l (inr has) = has
 
-no_spans : {span : Span} {spans : List Span} → span ∷ spans ≡ [] → ⊥
+no_spans : {span : BlockSpan} {spans : List BlockSpan} → span ∷ spans ≡ [] → ⊥
 no_spans e = cc
 
-clear_inside : (span : Span) (spans : List Span) (rest : List Item) → (span ∷ spans ≡ []) ⊎ NoBrace rest → NoBrace rest
+clear_inside : (span : BlockSpan) (spans : List BlockSpan) (rest : List Item) → (span ∷ spans ≡ []) ⊎ NoBrace rest → NoBrace rest
 clear_inside span spans rest (inl e) = elim (no_spans e) [ ]
 clear_inside span spans rest (inr nb) = nb
 
@@ -202,25 +173,25 @@ implicit_given {text = text} {of = of} {items_of = items_of} p kind m place col 
   each = λ i a h.
       stands_held text block col i ((pieces_laid of pieces).blocks col start) (λ span has at. braces span has i a h at)
       o.column (drop i (lexemes text)) refl (λ same. begins_start text start i (stretches of pieces) (some_pieces of pieces i start a h) same)
-      (right_at text block col block.extent start (drop start (lexemes text)) refl (o.stands l) i a (omega (arith, h, none_over (pieces_laid of pieces).extent)));
+      (o.stands l i a (omega (arith, h, none_over (pieces_laid of pieces).extent)));
   items_are = k.items_are ∙ ap (λ (items : List Item). items ++ rest) (append-nil (flat_map (piece_items items_of) pieces));
   clear = inr (clear_inside block ((pieces_laid of pieces).blocks col (start + 0)) rest k.clear);
 }
   where
-    block : Span
+    block : BlockSpan
     block = the_span kind m start (implicit_block of col pieces)
 
-    own : (span : Span) → Has text.spans span → suc start ≤ span.start → span.start ≤ start + (pieces_laid of pieces).extent → Has ((pieces_laid of pieces).blocks col start) span
+    own : (span : BlockSpan) → Has text.spans span → suc start ≤ span.start → span.start ≤ start + (pieces_laid of pieces).extent → Has ((pieces_laid of pieces).blocks col start) span
     own span has low high =
         subst (λ s. Has ((pieces_laid of pieces).blocks col s) span) (none_more start)
         (other_start start 0 kind m (implicit_block of col pieces) ((pieces_laid of pieces).blocks col (start + 0)) span low
         (k.owned span has (omega arith) (omega (arith, none_over (pieces_laid of pieces).extent))))
 
-    not_this : (span : Span) (i : ℕ) → Inside block span i → Has (block ∷ (pieces_laid of pieces).blocks col (start + 0)) span → Has ((pieces_laid of pieces).blocks col start) span
-    not_this span i at (inl same) = absurd (at.explicit col (sym (ap (λ (s : Span). s.layout) same)))
+    not_this : (span : BlockSpan) (i : ℕ) → Inside block span i → Has (block ∷ (pieces_laid of pieces).blocks col (start + 0)) span → Has ((pieces_laid of pieces).blocks col start) span
+    not_this span i at (inl same) = absurd (at.explicit col (sym (ap (λ (s : BlockSpan). s.layout) same)))
     not_this span i at (inr has) = subst (λ s. Has ((pieces_laid of pieces).blocks col s) span) (none_more start) has
 
-    braces : (span : Span) → Has text.spans span → (i : ℕ) → start ≤ i → i < start + (pieces_laid of pieces).extent → Inside block span i → Has ((pieces_laid of pieces).blocks col start) span
+    braces : (span : BlockSpan) → Has text.spans span → (i : ℕ) → start ≤ i → i < start + (pieces_laid of pieces).extent → Inside block span i → Has ((pieces_laid of pieces).blocks col start) span
     braces span has i a h at = not_this span i at (k.owned span has at.lowest (omega (arith, at.behind, h)))
 
 -- ---- any block
@@ -329,7 +300,7 @@ block_size {of = of} {items_of = items_of} p kind place layout pieces fit =
     (sum_size (pieces_laid of pieces).extent (length (closing_items layout)) (flat_map (piece_items items_of) pieces) (closing_items layout) (pieces_size p place pieces fit) refl)
 
 block_lies : {T : Type 0} {text : Text} {of : T → Laid} {items_of : T → List Item} {parts : Parts T} {Fits : DeclPlace → DeclPlace → T → Type 0} → PartsRegain text of items_of parts Fits
-    → (kind : BlockKind) (m : ℕ) (place : DeclPlace) (layout : Layout) (pieces : List (Piece T)) → PiecesFit Fits place pieces → AreBraced layout pieces → (start : ℕ) (span : Span)
+    → (kind : BlockKind) (m : ℕ) (place : DeclPlace) (layout : Layout) (pieces : List (Piece T)) → PiecesFit Fits place pieces → AreBraced layout pieces → (start : ℕ) (span : BlockSpan)
     → Has ((block_laid kind (record { layout = layout; pieces = laids of pieces })).blocks m start) span
     → Within true start (block_laid kind (record { layout = layout; pieces = laids of pieces })).extent span
 block_lies {of = of} p kind m place layout pieces fit are start span (inl same) =

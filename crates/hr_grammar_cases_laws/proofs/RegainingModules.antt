@@ -15,8 +15,8 @@ use Rattle.hr_tree.specs.Yields.{pat_items, exp_items, decl_items, alt_items, he
 use Rattle.hr_grammar.specs.Blocks.{IsPiece}
 use Rattle.hr_grammar.specs.Nodes.{Nodes, DeclPlace}
 use Rattle.hr_grammar.specs.Firsts.{kind_at}
-use Rattle.hr_grammar.specs.Spans.{Span, block_laid, spans_of}
-use Rattle.hr_grammar.specs.Offside.{placed_among, StandsWell, Offside}
+use Rattle.hr_grammar.specs.Spans.{BlockSpan, block_laid, spans_of}
+use Rattle.hr_grammar.specs.Offside.{placed_among, StandsWell, Offside, Next}
 use Rattle.hr_grammar.specs.Yields.{nodes, IsModule}
 use Rattle.hr_grammar.proofs.Firsts.{patterns_begin_lem, expressions_begin_lem}
 use Rattle.hr_grammar.proofs.PartFirsts.{declarations_begin_lem, alternatives_begin_lem}
@@ -24,7 +24,7 @@ use Rattle.hr_grammar_cases.specs.Readings.{take_all}
 use Rattle.hr_grammar_cases.specs.Modules.{comes_behind, decl_parts, alt_parts, derivations, Derives}
 use Rattle.hr_grammar_cases.specs.Laws.{items_left}
 use Rattle.hr_grammar_cases.proofs.Readings.{append_nothing}
-use Rattle.hr_grammar_cases.proofs.Stretches.{Has, is_empty_at, Text, lexemes, seen, Next, lexemes_at, mark_or}
+use Rattle.hr_grammar_cases.proofs.Stretches.{Has, is_empty_at, Text, lexemes, seen, lexemes_at, mark_or}
 use Rattle.hr_grammar_cases.proofs.Standing.{GoesAt}
 use Rattle.hr_grammar_cases.proofs.StandingPieces.{laids}
 use Rattle.hr_grammar_cases.proofs.StandingTrees.{laid_decl, laid_alt}
@@ -129,7 +129,7 @@ columns_drop zero ts all = all
 columns_drop (suc i) [] all = tt
 columns_drop (suc i) (next ∷ ts) all = columns_drop i ts all.1
 
-column_goes : (spans : List Span) (i : ℕ) (ts : List Placed) → AllByRecursion (λ next. 1 ≤ next.pos.col) ts → Next (λ next. goes_on 0 next ≡ true) (placed_among spans i ts)
+column_goes : (spans : List BlockSpan) (i : ℕ) (ts : List Placed) → AllByRecursion (λ next. 1 ≤ next.pos.col) ts → Next (λ next. goes_on 0 next ≡ true) (placed_among spans i ts)
 column_goes spans i [] all = tt
 column_goes spans i (next ∷ ts) all = goes_from _ (nat_lt 0 next.pos.col) (lt-ltb 0 next.pos.col all.0)
 
@@ -144,7 +144,7 @@ columns_take (item ∷ items) rest (next ∷ ts) all e =
     (ts, (goes_from next.first (nat_lt 0 next.pos.col) (lt-ltb 0 next.pos.col all.0), the_first e, refl), columns_take items rest ts all.1 (ap (λ (l : List Item). drop 1 l) e))
 
 -- ---- modules
-stands_each : (P : Span → Type 0) (spans : List Span) → AllByRecursion P spans → (span : Span) → Has spans span → P span
+stands_each : (P : BlockSpan → Type 0) (spans : List BlockSpan) → AllByRecursion P spans → (span : BlockSpan) → Has spans span → P span
 stands_each P [] all span has = elim has [ ]
 stands_each P (x ∷ spans) all span (inl same) = subst P same all.0
 stands_each P (x ∷ spans) all span (inr has) = stands_each P spans all.1 span has

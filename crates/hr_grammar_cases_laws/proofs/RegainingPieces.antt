@@ -14,13 +14,13 @@ use Rattle.hr_tree.specs.Lists.{piece_items}
 use Rattle.hr_grammar.specs.Words.{IsSemicolon}
 use Rattle.hr_grammar.specs.Blocks.{PartsAreSeparated}
 use Rattle.hr_grammar.specs.Nodes.{DeclPlace}
-use Rattle.hr_grammar.specs.Spans.{Span, Stretch, stretch_length, Laid}
-use Rattle.hr_grammar.specs.Offside.{IsAtMargin, PartsBegin, begins, placed_among}
+use Rattle.hr_grammar.specs.Spans.{BlockSpan, Stretch, stretch_length, Laid}
+use Rattle.hr_grammar.specs.Offside.{IsAtMargin, PartsBegin, begins, placed_among, Next}
 use Rattle.hr_grammar_cases.specs.Readings.{inside}
 use Rattle.hr_grammar_cases.specs.Blocks.{Parts, takes_semicolon, pieces_reading, braced_reading}
 use Rattle.hr_grammar_cases.specs.Laws.{items_left}
 use Rattle.hr_grammar_cases.proofs.Readings.{append_assoc}
-use Rattle.hr_grammar_cases.proofs.Stretches.{Has, is_empty_at, Text, lexemes, mark_or, seen, Next, lexemes_at, seen_plain, seen_begun}
+use Rattle.hr_grammar_cases.proofs.Stretches.{Has, is_empty_at, Text, lexemes, mark_or, seen, lexemes_at, seen_plain, seen_begun}
 use Rattle.hr_grammar_cases.proofs.Standing.{GoesAt, Within, known_first, in_second, both_within}
 use Rattle.hr_grammar_cases.proofs.StandingPoints.{next_map}
 use Rattle.hr_grammar_cases.proofs.StandingPieces.{laids, pieces_laid, stretches, AtLeast, margin_least, still_ended, last_from}
@@ -77,7 +77,7 @@ pieces_size {of = of} {items_of = items_of} p place (Piece.Part part ∷ pieces)
     sum_size (of part).extent (pieces_laid of pieces).extent (items_of part) (flat_map (piece_items items_of) pieces) (p.regains 0 place fit.0 part fit.1).size (pieces_size p fit.0 pieces fit.2)
 
 pub pieces_lie : {T : Type 0} {text : Text} {of : T → Laid} {items_of : T → List Item} {parts : Parts T} {Fits : DeclPlace → DeclPlace → T → Type 0} → PartsRegain text of items_of parts Fits
-    → (n : ℕ) (place : DeclPlace) (pieces : List (Piece T)) → PiecesFit Fits place pieces → (start : ℕ) (span : Span) → Has ((pieces_laid of pieces).blocks n start) span
+    → (n : ℕ) (place : DeclPlace) (pieces : List (Piece T)) → PiecesFit Fits place pieces → (start : ℕ) (span : BlockSpan) → Has ((pieces_laid of pieces).blocks n start) span
     → Within false start (pieces_laid of pieces).extent span
 pieces_lie p n place [] fit start span has = elim has [ ]
 pieces_lie {of = of} p n place (Piece.Semicolon item ∷ pieces) fit start span has =
@@ -133,7 +133,7 @@ goes_least text n i g =
     next_map (λ next. goes_on n next ≡ true) (λ next. left_of n next ≡ false) (drop i (lexemes text))
     (λ next. go_least next.first (nat_lt n next.pos.col) (nat_lt next.pos.col n) (λ e. not_less next.pos.col n (ltb-true n next.pos.col e))) g
 
-first_least : (text : Text) (n start f : ℕ) (spans : List Span) (pieces : List Stretch) → ((span : Span) → Has spans span → Within false start f span)
+first_least : (text : Text) (n start f : ℕ) (spans : List BlockSpan) (pieces : List Stretch) → ((span : BlockSpan) → Has spans span → Within false start f span)
     → Held text n spans start ⊎ PieceAt text n start pieces start → AtLeast text n start
 first_least text n start f spans pieces w (inl (inl g)) = goes_least text n start g
 first_least text n start f spans pieces w (inl (inr c)) = let m = (w c.span c.among).behind in let l = c.behind in let no : ⊥ = omega arith in elim no [ ]
@@ -151,7 +151,7 @@ margin_behind n k [] rest p = (tt, tt)
 margin_behind n k (Stretch.Semicolon ∷ pieces) rest p = (tt, p)
 margin_behind n k (Stretch.Part j ∷ pieces) rest p = p
 
-margin_seen : (n : ℕ) (spans : List Span) (i : ℕ) (placed : List Placed) → IsAtMargin n (placed_among spans i placed) → IsAtMargin n (mark_or (is_empty_at spans i) placed)
+margin_seen : (n : ℕ) (spans : List BlockSpan) (i : ℕ) (placed : List Placed) → IsAtMargin n (placed_among spans i placed) → IsAtMargin n (mark_or (is_empty_at spans i) placed)
 margin_seen n spans i [] m = m
 margin_seen n spans i (next ∷ placed) m = m
 

@@ -24,7 +24,7 @@ use Rattle.hr_grammar.specs.Words.{IsText}
 use Rattle.hr_grammar.specs.Spelled.{IsOperator, IsVariableOperator, IsConstructorOperator}
 use Rattle.hr_grammar.specs.Separated.{There, AreSeparated}
 use Rattle.hr_grammar.specs.Nodes.{Nodes, Colons, PatPlace, ExpPlace, DeclPlace}
-use Rattle.hr_grammar.specs.Firsts.{Begins, begins_pattern, begins_operand, opens_expression, BeginsExpression, opens_part}
+use Rattle.hr_grammar.specs.Firsts.{FirstHas, begins_pattern, begins_operand, opens_expression, BeginsExpression, opens_part}
 use Rattle.hr_grammar.specs.Spans.{Laid, row, block_laid}
 use Rattle.hr_grammar_cases.specs.Readings.{Reading, one, take_all, in_turn, separated, inside}
 use Rattle.hr_grammar_cases.specs.Derivations.{Derivations}
@@ -47,14 +47,14 @@ no_brace : (test : Role → Bool) → test Role.OpenBrace ≡ false → (role : 
 no_brace test e Role.OpenBrace t = let no : ⊥ = cc in elim no [ ]
 no_brace test e _ t = refl
 
-begins_begun : (test : Role → Bool) → test Role.OpenBrace ≡ false → (items : List Item) → Begins test items → Begun items
+begins_begun : (test : Role → Bool) → test Role.OpenBrace ≡ false → (items : List Item) → FirstHas test items → Begun items
 begins_begun test e [] b = elim b [ ]
 begins_begun test e (item ∷ items) b = no_brace test e (role_of item.lexeme) b
 
-pub pattern_begun : (items : List Item) → Begins begins_pattern items → Begun items
+pub pattern_begun : (items : List Item) → FirstHas begins_pattern items → Begun items
 pattern_begun = begins_begun begins_pattern refl
 
-pub part_begun : (kind : BlockKind) (items : List Item) → Begins (opens_part kind) items → Begun items
+pub part_begun : (kind : BlockKind) (items : List Item) → FirstHas (opens_part kind) items → Begun items
 part_begun BlockKind.Body = begins_begun (opens_part BlockKind.Body) refl
 part_begun BlockKind.Declarations = begins_begun (opens_part BlockKind.Declarations) refl
 part_begun BlockKind.Alternatives = begins_begun (opens_part BlockKind.Alternatives) refl

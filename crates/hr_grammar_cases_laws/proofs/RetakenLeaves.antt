@@ -37,7 +37,7 @@ use Rattle.hr_grammar.specs.Nodes.{Nodes, TyPlace, PatPlace}
 use Rattle.hr_grammar.specs.Types.{TyProduction}
 use Rattle.hr_grammar.specs.Patterns.{ArePatOperands, PatProduction}
 use Rattle.hr_grammar.specs.Declarations.{IsTypeHead, IsConstructionOver, IsNewConstructionOver, AreArgumentsOver, IsLeftHeadOver, IsClosedOver, IsLeftSideOver}
-use Rattle.hr_grammar.specs.Imports.{AreMembers, IsNameList, IsTypeName, IsExport, AreExports, IsImported, IsAlias, AreImportNames, IsImport}
+use Rattle.hr_grammar.specs.Imports.{AreTypeMembers, IsNameList, IsTypeName, IsExport, AreExports, IsImported, IsAlias, AreImportNames, IsImport}
 use Rattle.hr_grammar.specs.Yields.{nodes, IsHeader}
 use Rattle.hr_grammar_cases.specs.Readings.{Reading, maybe}
 use Rattle.hr_grammar_cases.specs.Derivations.{Derivations}
@@ -189,7 +189,7 @@ left_side_retakes below allowed each n left is =
     (in_turn_retakes closed_items (closed_reading below n) (IsClosedOver allowed) (closed_retakes below allowed each n) left.closes is.1.1.0)))
 
 -- ---- imports and headers
-members_retake : (n : ℕ) (members : Option Members) → AreMembers members → Retakes n (maybe_members members) (maybe (members_reading n) members)
+members_retake : (n : ℕ) (members : Option Members) → AreTypeMembers members → Retakes n (maybe_members members) (maybe (members_reading n) members)
 members_retake n None are = nothing_retakes
 members_retake n (Some (Members.All left dots right)) are =
     then_retakes (one_retakes n IsLeftParen left are.0) (then_retakes (one_retakes n IsDots dots are.1.0) (one_retakes n IsRightParen right are.1.1))

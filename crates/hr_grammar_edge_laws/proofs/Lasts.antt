@@ -28,7 +28,7 @@ use Rattle.hr_grammar.specs.Blocks.{IsPiece, AreBraced}
 use Rattle.hr_grammar.specs.Yields.{nodes}
 use Rattle.hr_grammar.specs.Joins.{ty_joined, pat_joined}
 use Rattle.hr_grammar.proofs.Joins.{yields_join_lem}
-use Rattle.hr_grammar_edge_laws.specs.Lasts.{LastIs, Passes, Ends, ends_type, ends_pattern, TypesEnd, PatternsEnd}
+use Rattle.hr_grammar_edge_laws.specs.Lasts.{LastIs, Passes, LastPasses, ends_type, ends_pattern, TypesEnd, PatternsEnd}
 
 abbrev pub Test : Type 0
 Test = Class → List ℕ → Bool
@@ -52,53 +52,53 @@ last_after Is (item ∷ first) items e = last_behind Is item (first ++ items) (l
 pub last_before_nothing : (Is : Item → Type 0) (items : List Item) → LastIs Is items → LastIs Is (items ++ [])
 last_before_nothing Is items e = subst (LastIs Is) (sym (append-nil items)) e
 
-pub ends_behind : (test : Test) (item : Item) (items : List Item) → Ends test items → Ends test (item ∷ items)
+pub ends_behind : (test : Test) (item : Item) (items : List Item) → LastPasses test items → LastPasses test (item ∷ items)
 ends_behind test = last_behind (Passes test)
 
-pub ends_after : (test : Test) (first items : List Item) → Ends test items → Ends test (first ++ items)
+pub ends_after : (test : Test) (first items : List Item) → LastPasses test items → LastPasses test (first ++ items)
 ends_after test = last_after (Passes test)
 
-pub ends_before_nothing : (test : Test) (items : List Item) → Ends test items → Ends test (items ++ [])
+pub ends_before_nothing : (test : Test) (items : List Item) → LastPasses test items → LastPasses test (items ++ [])
 ends_before_nothing test = last_before_nothing (Passes test)
 
-pub ends_with : (test : Test) (first : List Item) (item : Item) → Passes test item → Ends test (first ++ item ∷ [])
+pub ends_with : (test : Test) (first : List Item) (item : Item) → Passes test item → LastPasses test (first ++ item ∷ [])
 ends_with test first item t = ends_after test first (item ∷ []) t
 
-pub weaker : (test wide : Test) → ((class : Class) (text : List ℕ) → test class text ≡ true → wide class text ≡ true) → (items : List Item) → Ends test items → Ends wide items
+pub weaker : (test wide : Test) → ((class : Class) (text : List ℕ) → test class text ≡ true → wide class text ≡ true) → (items : List Item) → LastPasses test items → LastPasses wide items
 weaker test wide widens [] e = e
 weaker test wide widens (item ∷ []) e = widens item.lexeme.class item.lexeme.text e
 weaker test wide widens (item ∷ (next ∷ items)) e = weaker test wide widens (next ∷ items) e
 
 -- lists of parts
-pub all_end : {T : Type 0} (test : Test) (of : T → List Item) (Is : T → Type 0) → ((part : T) → Is part → Ends test (of part)) → (parts : List T) → parts ≢ [] → AllByRecursion Is parts → Ends test (flat_map of parts)
+pub all_end : {T : Type 0} (test : Test) (of : T → List Item) (Is : T → Type 0) → ((part : T) → Is part → LastPasses test (of part)) → (parts : List T) → parts ≢ [] → AllByRecursion Is parts → LastPasses test (flat_map of parts)
 all_end test of Is each [] some is = elim (some refl) [ ]
 all_end test of Is each (part ∷ []) some is = ends_before_nothing test (of part) (each part is.0)
 all_end test of Is each (part ∷ (next ∷ rest)) some is = ends_after test (of part) (flat_map of (next ∷ rest)) (all_end test of Is each (next ∷ rest) (λ e. let no : ⊥ = cc in no) is.1)
 
-absent : (test : Test) (items : List Item) (item : Option Item) → item ≡ None → Ends test items → Ends test (items ++ maybe_item item)
-absent test items item none e = subst (λ i. Ends test (items ++ maybe_item i)) (sym none) (ends_before_nothing test items e)
+absent : (test : Test) (items : List Item) (item : Option Item) → item ≡ None → LastPasses test items → LastPasses test (items ++ maybe_item item)
+absent test items item none e = subst (λ i. LastPasses test (items ++ maybe_item i)) (sym none) (ends_before_nothing test items e)
 
-pub separated_end : {T : Type 0} (test : Test) (Separates : Item → Type 0) (of : T → List Item) (Is : T → Type 0) → ((part : T) → Is part → Ends test (of part))
-    → (parts : List (Listed T)) → parts ≢ [] → AreSeparated Separates Is parts → Ends test (flat_map (listed_items of) parts)
+pub separated_end : {T : Type 0} (test : Test) (Separates : Item → Type 0) (of : T → List Item) (Is : T → Type 0) → ((part : T) → Is part → LastPasses test (of part))
+    → (parts : List (Listed T)) → parts ≢ [] → AreSeparated Separates Is parts → LastPasses test (flat_map (listed_items of) parts)
 separated_end test Separates of Is each [] some is = elim (some refl) [ ]
 separated_end test Separates of Is each (listed ∷ []) some is = ends_before_nothing test (listed_items of listed) (absent test (of listed.part) listed.separator is.1 (each listed.part is.0))
 separated_end test Separates of Is each (listed ∷ (next ∷ rest)) some is =
     ends_after test (listed_items of listed) (flat_map (listed_items of) (next ∷ rest)) (separated_end test Separates of Is each (next ∷ rest) (λ e. let no : ⊥ = cc in no) is.1.1)
 
 -- an operand without an operator behind it
-pub last_operand_ends : {T : Type 0} (test : Test) (of : T → List Item) (operand : Operand T) → operand.operator ≡ None → Ends test (of operand.part) → Ends test (operand_items of operand)
+pub last_operand_ends : {T : Type 0} (test : Test) (of : T → List Item) (operand : Operand T) → operand.operator ≡ None → LastPasses test (of operand.part) → LastPasses test (operand_items of operand)
 last_operand_ends test of operand none e =
-    ends_after test (maybe_item operand.minus) (of operand.part ++ maybe_operator operand.operator) (subst (λ o. Ends test (of operand.part ++ maybe_operator o)) (sym none) (ends_before_nothing test (of operand.part) e))
+    ends_after test (maybe_item operand.minus) (of operand.part ++ maybe_operator operand.operator) (subst (λ o. LastPasses test (of operand.part ++ maybe_operator o)) (sym none) (ends_before_nothing test (of operand.part) e))
 
 -- blocks behind a word: it ends them where they have no lexeme
-piece_ends : {T : Type 0} (test : Test) (of : T → List Item) (Is : T → Type 0) → test Class.Special (codes ";") ≡ true → ((part : T) → Is part → Ends test (of part))
-    → (piece : Piece T) → IsPiece Is piece → Ends test (piece_items of piece)
+piece_ends : {T : Type 0} (test : Test) (of : T → List Item) (Is : T → Type 0) → test Class.Special (codes ";") ≡ true → ((part : T) → Is part → LastPasses test (of part))
+    → (piece : Piece T) → IsPiece Is piece → LastPasses test (piece_items of piece)
 piece_ends test of Is semicolon each (Piece.Semicolon item) is = text_ends test Class.Special (codes ";") item is semicolon
 piece_ends test of Is semicolon each (Piece.Part part) is = each part is
 
-pub block_ends : {T : Type 0} (test : Test) (of : T → List Item) (Is : T → Type 0) → test Class.Special (codes ";") ≡ true → test Class.Special (codes "}") ≡ true → ((part : T) → Is part → Ends test (of part))
+pub block_ends : {T : Type 0} (test : Test) (of : T → List Item) (Is : T → Type 0) → test Class.Special (codes ";") ≡ true → test Class.Special (codes "}") ≡ true → ((part : T) → Is part → LastPasses test (of part))
     → (word : Item) → test word.lexeme.class word.lexeme.text ≡ true → (layout : Layout) (pieces : List (Piece T)) → AreBraced layout pieces → AllByRecursion (IsPiece Is) pieces
-    → Ends test (word ∷ block_items of (record { layout = layout; pieces = pieces }))
+    → LastPasses test (word ∷ block_items of (record { layout = layout; pieces = pieces }))
 block_ends test of Is semicolon brace each word t (Layout.Implicit col) [] braced is = t
 block_ends test of Is semicolon brace each word t (Layout.Implicit col) (piece ∷ pieces) braced is =
     ends_behind test word (flat_map (piece_items of) (piece ∷ pieces) ++ []) (ends_before_nothing test (flat_map (piece_items of) (piece ∷ pieces))
@@ -115,31 +115,31 @@ pub record Closes (test : Test) : Type 0 where
   pub constructors : (text : List ℕ) → test Class.ConId text ≡ true
   pub qualified : (text : List ℕ) → test Class.QConId text ≡ true
 
-pub right_paren : (test : Test) → Closes test → (first : List Item) (item : Item) → IsText Class.Special (codes ")") item → Ends test (first ++ item ∷ [])
+pub right_paren : (test : Test) → Closes test → (first : List Item) (item : Item) → IsText Class.Special (codes ")") item → LastPasses test (first ++ item ∷ [])
 right_paren test closes first item is = ends_with test first item (text_ends test Class.Special (codes ")") item is closes.paren)
 
-pub right_square : (test : Test) → Closes test → (first : List Item) (item : Item) → IsText Class.Special (codes "]") item → Ends test (first ++ item ∷ [])
+pub right_square : (test : Test) → Closes test → (first : List Item) (item : Item) → IsText Class.Special (codes "]") item → LastPasses test (first ++ item ∷ [])
 right_square test closes first item is = ends_with test first item (text_ends test Class.Special (codes "]") item is closes.square)
 
 name_ends : (test : Test) → Closes test → (item : Item) → IsOf Class.ConId item ⊎ IsOf Class.QConId item → test item.lexeme.class item.lexeme.text ≡ true
 name_ends test closes item (inl is) = class_ends test Class.ConId item is (closes.constructors item.lexeme.text)
 name_ends test closes item (inr is) = class_ends test Class.QConId item is (closes.qualified item.lexeme.text)
 
-type_constructor_ends : (test : Test) → Closes test → (named : Built) → IsTypeConstructor named → Ends test (constructor_items named)
+type_constructor_ends : (test : Test) → Closes test → (named : Built) → IsTypeConstructor named → LastPasses test (constructor_items named)
 type_constructor_ends test closes (Built.Name name) is = name_ends test closes name is
 type_constructor_ends test closes (Built.Symbol left symbol right) is = right_paren test closes (left ∷ symbol ∷ []) right is.1.1
 type_constructor_ends test closes (Built.Unit left right) is = right_paren test closes (left ∷ []) right is.1
 type_constructor_ends test closes (Built.EmptyList left right) is = right_square test closes (left ∷ []) right is.1
 type_constructor_ends test closes (Built.Tuple left commas right) is = right_paren test closes (left ∷ commas) right is.1.1
 
-pub constructor_ends : (test : Test) → Closes test → (named : Built) → IsConstructor named → Ends test (constructor_items named)
+pub constructor_ends : (test : Test) → Closes test → (named : Built) → IsConstructor named → LastPasses test (constructor_items named)
 constructor_ends test closes (Built.Name name) is = name_ends test closes name is
 constructor_ends test closes (Built.Symbol left symbol right) is = right_paren test closes (left ∷ symbol ∷ []) right is.1.1
 constructor_ends test closes (Built.Unit left right) is = right_paren test closes (left ∷ []) right is.1
 constructor_ends test closes (Built.EmptyList left right) is = right_square test closes (left ∷ []) right is.1
 constructor_ends test closes (Built.Tuple left commas right) is = right_paren test closes (left ∷ commas) right is.1.1
 
-variable_ends : (test : Test) → Closes test → (named : Named) → IsVariable named → Ends test (variable_items named)
+variable_ends : (test : Test) → Closes test → (named : Named) → IsVariable named → LastPasses test (variable_items named)
 variable_ends test closes (Named.Name name) is = class_ends test Class.VarId name is (closes.variables name.lexeme.text)
 variable_ends test closes (Named.Symbol left symbol right) is = right_paren test closes (left ∷ symbol ∷ []) right is.1.1
 
@@ -149,8 +149,8 @@ types_close = record { paren = refl; square = refl; variables = λ text. refl; c
 patterns_close : Closes ends_pattern
 patterns_close = record { paren = refl; square = refl; variables = λ text. refl; constructors = λ text. refl; qualified = λ text. refl }
 
-ty_level : (levels : ℕ) → ((place : TyPlace) (ty : Ty) → (nodes levels).ty place ty → Ends ends_type (ty_items ty))
-    → (place : TyPlace) (layer : Ty-F Ty) → TyProduction (nodes levels) place layer → Ends ends_type (ty_joined layer)
+ty_level : (levels : ℕ) → ((place : TyPlace) (ty : Ty) → (nodes levels).ty place ty → LastPasses ends_type (ty_items ty))
+    → (place : TyPlace) (layer : Ty-F Ty) → TyProduction (nodes levels) place layer → LastPasses ends_type (ty_joined layer)
 ty_level levels below place (Ty-F.Variable name) is = class_ends ends_type Class.VarId name is refl
 ty_level levels below place (Ty-F.Constructor named) is = type_constructor_ends ends_type types_close named is
 ty_level levels below place (Ty-F.Apply named arguments) is =
@@ -163,23 +163,23 @@ ty_level levels below place (Ty-F.Group left part right) is = right_paren ends_t
 
 pub types_end_lem : TypesEnd
 types_end_lem zero place ty is = elim is [ ]
-types_end_lem (suc levels) place ty is = subst (Ends ends_type) (sym (yields_join_lem.ty ty)) (ty_level levels (types_end_lem levels) place (out-Ty ty) is)
+types_end_lem (suc levels) place ty is = subst (LastPasses ends_type) (sym (yields_join_lem.ty ty)) (ty_level levels (types_end_lem levels) place (out-Ty ty) is)
 
 pub literal_ends : (test : Test) → ((text : List ℕ) → (test Class.Integer text ≡ true) × (test Class.Char text ≡ true) × (test Class.Str text ≡ true)) → (item : Item) → IsLiteral item → test item.lexeme.class item.lexeme.text ≡ true
 literal_ends test literals item (inl is) = class_ends test Class.Integer item is (literals item.lexeme.text).0
 literal_ends test literals item (inr (inl is)) = class_ends test Class.Char item is (literals item.lexeme.text).1
 literal_ends test literals item (inr (inr is)) = class_ends test Class.Str item is (literals item.lexeme.text).2
 
-pat_operands : (levels : ℕ) → ((place : PatPlace) (pat : Pat) → (nodes levels).pat place pat → Ends ends_pattern (pat_items pat))
-    → (list : List (Operand Pat)) → ArePatOperands (nodes levels) list → Ends ends_pattern (flat_map (operand_items pat_items) list)
+pat_operands : (levels : ℕ) → ((place : PatPlace) (pat : Pat) → (nodes levels).pat place pat → LastPasses ends_pattern (pat_items pat))
+    → (list : List (Operand Pat)) → ArePatOperands (nodes levels) list → LastPasses ends_pattern (flat_map (operand_items pat_items) list)
 pat_operands levels below [] is = elim is [ ]
 pat_operands levels below (operand ∷ []) is =
     ends_before_nothing ends_pattern (operand_items pat_items operand) (last_operand_ends ends_pattern pat_items operand is.2 (below PatPlace.Operand operand.part is.1))
 pat_operands levels below (operand ∷ (next ∷ rest)) is =
     ends_after ends_pattern (operand_items pat_items operand) (flat_map (operand_items pat_items) (next ∷ rest)) (pat_operands levels below (next ∷ rest) is.3)
 
-pat_level : (levels : ℕ) → ((place : PatPlace) (pat : Pat) → (nodes levels).pat place pat → Ends ends_pattern (pat_items pat))
-    → (place : PatPlace) (layer : Pat-F Pat) → PatProduction (nodes levels) place layer → Ends ends_pattern (pat_joined layer)
+pat_level : (levels : ℕ) → ((place : PatPlace) (pat : Pat) → (nodes levels).pat place pat → LastPasses ends_pattern (pat_items pat))
+    → (place : PatPlace) (layer : Pat-F Pat) → PatProduction (nodes levels) place layer → LastPasses ends_pattern (pat_joined layer)
 pat_level levels below place (Pat-F.Variable bound) is = variable_ends ends_pattern patterns_close bound is
 pat_level levels below place (Pat-F.Wildcard word) is = text_ends ends_pattern Class.ReservedId (codes "_") word is refl
 pat_level levels below place (Pat-F.Literal item) is = literal_ends ends_pattern (λ text. (refl, refl, refl)) item is
@@ -198,4 +198,4 @@ pat_level levels below place (Pat-F.Fields named left fields right) is = elim is
 
 pub patterns_end_lem : PatternsEnd
 patterns_end_lem zero place pat is = elim is [ ]
-patterns_end_lem (suc levels) place pat is = subst (Ends ends_pattern) (sym (yields_join_lem.pat pat)) (pat_level levels (patterns_end_lem levels) place (out-Pat pat) is)
+patterns_end_lem (suc levels) place pat is = subst (LastPasses ends_pattern) (sym (yields_join_lem.pat pat)) (pat_level levels (patterns_end_lem levels) place (out-Pat pat) is)

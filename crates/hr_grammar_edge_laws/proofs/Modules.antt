@@ -8,7 +8,7 @@ use Rattle.hr_tree.specs.Yields.{decl_items, header_items, module_items}
 use Rattle.hr_grammar.specs.Nodes.{DeclPlace}
 use Rattle.hr_grammar.specs.Yields.{IsModule}
 use Rattle.hr_grammar.specs.Spans.{Laid, block_laid, piece_of, spans_of}
-use Rattle.hr_grammar_edge_laws.specs.Openings.{behind_openings, starts_of}
+use Rattle.hr_grammar_edge_laws.specs.Openings.{behind_openings, block_starts}
 use Rattle.hr_grammar_edge_laws.specs.Laws.{body_start, BlocksBegin}
 use Rattle.hr_grammar_edge_laws.proofs.Openings.{IsBlockBy}
 use Rattle.hr_grammar_edge_laws.proofs.Stretches.{qualifier}
@@ -24,7 +24,7 @@ body_by levels tree is = (all_below levels).declarations BlockKind.Body DeclPlac
 behind_header : (tree : Module) → drop (body_start tree) (module_items tree) ≡ block_items decl_items tree.body
 behind_header tree = drop-append_seam (header_items tree.header) (block_items decl_items tree.body)
 
-modules_begin : (levels : ℕ) (tree : Module) → IsModule levels tree → starts_of (spans_of tree) ≡ body_start tree ∷ behind_openings (body_start tree) (drop (body_start tree) (module_items tree))
+modules_begin : (levels : ℕ) (tree : Module) → IsModule levels tree → block_starts (spans_of tree) ≡ body_start tree ∷ behind_openings (body_start tree) (drop (body_start tree) (module_items tree))
 modules_begin levels tree is =
     let e : 0 + body_start tree ≡ body_start tree = omega arith in
     (body_by levels tree is).starts 0 (0 + body_start tree) ∙ ap (λ n. n ∷ behind_openings n (block_items decl_items tree.body)) e

@@ -15,19 +15,19 @@ use Rattle.hr_tree.specs.Names.{maybe_item}
 use Rattle.hr_tree.specs.Lists.{listed_items, piece_items, block_items, opening_items, closing_items}
 use Rattle.hr_grammar.specs.Separated.{AreSeparated}
 use Rattle.hr_grammar.specs.Blocks.{IsPiece, AreBraced}
-use Rattle.hr_grammar.specs.Spans.{Laid, Span, blockless, one, row, ending_as, ◌▷◌, listed_laid, piece_laid, column_inside, block_laid}
+use Rattle.hr_grammar.specs.Spans.{Laid, BlockSpan, blockless, one, row, ending_as, ◌▷◌, listed_laid, piece_laid, column_inside, block_laid}
 use Rattle.hr_grammar.proofs.walk.Lists.{absent, there}
-use Rattle.hr_grammar_edge_laws.specs.Openings.{is_opening, behind_openings, IsPlain, ArePlain, starts_of, IsLaidBy}
+use Rattle.hr_grammar_edge_laws.specs.Openings.{is_opening, behind_openings, IsNoOpening, AreNoOpenings, block_starts, IsLaidBy}
 use Rattle.hr_grammar_edge_laws.proofs.Plain.{special, plain_patterns}
 
 -- the numbers behind the opening words, by the first item
-pub numbers_plain : (n : ℕ) (item : Item) (items : List Item) → IsPlain item → behind_openings n (item ∷ items) ≡ behind_openings (suc n) items
+pub numbers_plain : (n : ℕ) (item : Item) (items : List Item) → IsNoOpening item → behind_openings n (item ∷ items) ≡ behind_openings (suc n) items
 numbers_plain n item items p = ap (λ b. if b then suc n ∷ behind_openings (suc n) items else behind_openings (suc n) items) p
 
 pub numbers_opening : (n : ℕ) (item : Item) (items : List Item) → is_opening item ≡ true → behind_openings n (item ∷ items) ≡ suc n ∷ behind_openings (suc n) items
 numbers_opening n item items p = ap (λ b. if b then suc n ∷ behind_openings (suc n) items else behind_openings (suc n) items) p
 
-pub no_numbers : (n : ℕ) (items : List Item) → ArePlain items → behind_openings n items ≡ []
+pub no_numbers : (n : ℕ) (items : List Item) → AreNoOpenings items → behind_openings n items ≡ []
 no_numbers n [] p = refl
 no_numbers n (item ∷ items) p = numbers_plain n item items p.0 ∙ no_numbers (suc n) items p.1
 
@@ -47,13 +47,13 @@ pub same : {items others : List Item} {laid other : Laid} → items ≡ others �
 same {items} {others} {laid} {other} e f is = subst (λ l. IsLaidBy items l) (sym f) (subst (λ i. IsLaidBy i other) (sym e) is)
 
 -- items without an opening word
-pub plain : (items : List Item) → ArePlain items → IsLaidBy items (blockless items)
+pub plain : (items : List Item) → AreNoOpenings items → IsLaidBy items (blockless items)
 plain items p = record { extent = refl; starts = λ m n. sym (no_numbers n items p) }
 
 pub join : {xs ys : List Item} {first second : Laid} → IsLaidBy xs first → IsLaidBy ys second → IsLaidBy (xs ++ ys) (first ▷ second)
 join {xs} {ys} {first} {second} f s = record {
   extent = ap₂ (λ a b. a + b) f.extent s.extent ∙ sym (length-append xs ys);
-  starts = λ m n. map-append (λ (span : Span). span.start) (first.blocks m n) (second.blocks m (n + first.extent))
+  starts = λ m n. map-append (λ (span : BlockSpan). span.start) (first.blocks m n) (second.blocks m (n + first.extent))
       ∙ ap₂ (λ a b. a ++ b) (f.starts m n) (s.starts m (n + first.extent)) ∙ ap (λ k. behind_openings n xs ++ behind_openings (n + k) ys) f.extent ∙ sym (numbers_append n xs ys);
 }
 
@@ -63,12 +63,12 @@ ends_as ending is = record { extent = is.extent; starts = is.starts }
 -- a stretch that begins with a block: that one begins where the stretch does
 pub record IsBlockBy (items : List Item) (laid : Laid) : Type 0 where
   pub extent : laid.extent ≡ length items
-  pub starts : (m n : ℕ) → starts_of (laid.blocks m n) ≡ n ∷ behind_openings n items
+  pub starts : (m n : ℕ) → block_starts (laid.blocks m n) ≡ n ∷ behind_openings n items
 
 pub join_block : {xs ys : List Item} {first second : Laid} → IsBlockBy xs first → IsLaidBy ys second → IsBlockBy (xs ++ ys) (first ▷ second)
 join_block {xs} {ys} {first} {second} f s = record {
   extent = ap₂ (λ a b. a + b) f.extent s.extent ∙ sym (length-append xs ys);
-  starts = λ m n. map-append (λ (span : Span). span.start) (first.blocks m n) (second.blocks m (n + first.extent))
+  starts = λ m n. map-append (λ (span : BlockSpan). span.start) (first.blocks m n) (second.blocks m (n + first.extent))
       ∙ ap₂ (λ a b. a ++ b) (f.starts m n) (s.starts m (n + first.extent)) ∙ ap (λ k. n ∷ (behind_openings n xs ++ behind_openings (n + k) ys)) f.extent ∙ ap (λ l. n ∷ l) (sym (numbers_append n xs ys));
 }
 
@@ -79,13 +79,13 @@ opened {items} {laid} word o is = record {
   starts = λ m n. is.starts m (n + 1) ∙ (let e : n + 1 ≡ suc n = omega arith in ap (λ k. k ∷ behind_openings k items) e) ∙ sym (numbers_opening n word items o);
 }
 
-block_by : (kind : BlockKind) (layout : Layout) (pieces : List (Piece Laid)) (inner : List Item) → ArePlain (opening_items layout) → ArePlain (closing_items layout)
+block_by : (kind : BlockKind) (layout : Layout) (pieces : List (Piece Laid)) (inner : List Item) → AreNoOpenings (opening_items layout) → AreNoOpenings (closing_items layout)
     → IsLaidBy inner (row (map piece_laid pieces)) → IsBlockBy (opening_items layout ++ (inner ++ closing_items layout)) (block_laid kind (record { layout = layout; pieces = pieces }))
 block_by kind layout pieces inner p q is =
     let whole = join (plain (opening_items layout) p) (join is (plain (closing_items layout) q)) in
     record {
       extent = whole.extent;
-      starts = λ m n. ap (λ l. n ∷ l) (ap starts_of (sym (append-nil ((row (map piece_laid pieces)).blocks (column_inside layout) (n + length (opening_items layout))))) ∙ whole.starts (column_inside layout) n);
+      starts = λ m n. ap (λ l. n ∷ l) (ap block_starts (sym (append-nil ((row (map piece_laid pieces)).blocks (column_inside layout) (n + length (opening_items layout))))) ∙ whole.starts (column_inside layout) n);
     }
 
 -- lists of parts
@@ -94,7 +94,7 @@ pub all_by : {T : Type 0} (Is : T → Type 0) (of : T → List Item) (laid : T �
 all_by Is of laid each [] is = plain [] tt
 all_by Is of laid each (part ∷ parts) is = join (each part is.0) (all_by Is of laid each parts is.1)
 
-pub separated_by : {T : Type 0} (Separates : Item → Type 0) → ((item : Item) → Separates item → IsPlain item) → (Is : T → Type 0) (of : T → List Item) (laid : T → Laid) → ((part : T) → Is part → IsLaidBy (of part) (laid part))
+pub separated_by : {T : Type 0} (Separates : Item → Type 0) → ((item : Item) → Separates item → IsNoOpening item) → (Is : T → Type 0) (of : T → List Item) (laid : T → Laid) → ((part : T) → Is part → IsLaidBy (of part) (laid part))
     → (parts : List (Listed T)) → AreSeparated Separates Is parts → IsLaidBy (flat_map (listed_items of) parts) (row (map listed_laid (map (λ (l : Listed T). record { part = laid l.part; separator = l.separator }) parts)))
 separated_by Separates apart Is of laid each [] is = plain [] tt
 separated_by Separates apart Is of laid each (listed ∷ []) is = join (join (each listed.part is.0) (plain (maybe_item listed.separator) (absent plain_patterns.joins listed.separator is.1))) (plain [] tt)
@@ -114,11 +114,11 @@ pub pieces_by : {T : Type 0} (Is : T → Type 0) (of : T → List Item) (laid : 
 pieces_by Is of laid each turn s p [] is = plain [] tt
 pieces_by Is of laid each turn s p (piece ∷ pieces) is = join (piece_by Is of laid each turn s p piece is.0) (pieces_by Is of laid each turn s p pieces is.1)
 
-opening_plain : {T : Type 0} (layout : Layout) (pieces : List (Piece T)) → AreBraced layout pieces → ArePlain (opening_items layout)
+opening_plain : {T : Type 0} (layout : Layout) (pieces : List (Piece T)) → AreBraced layout pieces → AreNoOpenings (opening_items layout)
 opening_plain (Layout.Implicit col) pieces braced = tt
 opening_plain (Layout.Explicit left right) pieces braced = (special (codes "{") left braced.0, tt)
 
-closing_plain : {T : Type 0} (layout : Layout) (pieces : List (Piece T)) → AreBraced layout pieces → ArePlain (closing_items layout)
+closing_plain : {T : Type 0} (layout : Layout) (pieces : List (Piece T)) → AreBraced layout pieces → AreNoOpenings (closing_items layout)
 closing_plain (Layout.Implicit col) pieces braced = tt
 closing_plain (Layout.Explicit left right) pieces braced = (special (codes "}") right braced.1.0, tt)
 

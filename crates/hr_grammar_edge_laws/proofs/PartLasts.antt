@@ -36,7 +36,7 @@ use Rattle.hr_grammar.specs.Imports.{IsNameList, IsImported, IsAlias, AreImportN
 use Rattle.hr_grammar.specs.Yields.{nodes}
 use Rattle.hr_grammar.specs.Joins.{exp_joined, decl_joined}
 use Rattle.hr_grammar.proofs.Joins.{yields_join_lem}
-use Rattle.hr_grammar_edge_laws.specs.Lasts.{Ends, ends_type, ends_atom, ends_part, ends_expression, ends_import, ends_declaration, ExpressionsEnd, DeclarationsEnd, AlternativesEnd}
+use Rattle.hr_grammar_edge_laws.specs.Lasts.{LastPasses, ends_type, ends_atom, ends_part, ends_expression, ends_import, ends_declaration, ExpressionsEnd, DeclarationsEnd, AlternativesEnd}
 use Rattle.hr_grammar_edge_laws.proofs.Lasts.{Closes, class_ends, text_ends, ends_behind, ends_after, ends_before_nothing, ends_with, weaker, all_end, separated_end, last_operand_ends, block_ends, right_paren, right_square, constructor_ends, literal_ends, types_end_lem}
 
 atoms_close : Closes ends_atom
@@ -65,46 +65,46 @@ type_part Class.QConId text e = refl
 type_part Class.Special text e = brackets_last text e
 type_part _ text e = let no : ⊥ = cc in elim no [ ]
 
-types_last : (levels : ℕ) (place : TyPlace) (ty : Ty) → (nodes levels).ty place ty → Ends ends_part (ty_items ty)
+types_last : (levels : ℕ) (place : TyPlace) (ty : Ty) → (nodes levels).ty place ty → LastPasses ends_part (ty_items ty)
 types_last levels place ty is = weaker ends_type ends_part type_part (ty_items ty) (types_end_lem levels place ty is)
 
 -- at a place of expressions: an atom may stand everywhere, and what is no atom not at the place of an atom
-atom_at : (place : ExpPlace) (items : List Item) → Ends ends_atom items → Ends (ends_expression place) items
+atom_at : (place : ExpPlace) (items : List Item) → LastPasses ends_atom items → LastPasses (ends_expression place) items
 atom_at ExpPlace.Atom items e = e
 atom_at _ items e = weaker ends_atom ends_part atom_part items e
 
-part_at : (takes : ExpPlace → Bool) → takes ExpPlace.Atom ≡ false → (place : ExpPlace) (items : List Item) → takes place ≡ true → Ends ends_part items → Ends (ends_expression place) items
+part_at : (takes : ExpPlace → Bool) → takes ExpPlace.Atom ≡ false → (place : ExpPlace) (items : List Item) → takes place ≡ true → LastPasses ends_part items → LastPasses (ends_expression place) items
 part_at takes none ExpPlace.Atom items t e = let no : ⊥ = cc in elim no [ ]
 part_at takes none _ items t e = e
 
-any_part : (place : ExpPlace) (items : List Item) → Ends (ends_expression place) items → Ends ends_part items
+any_part : (place : ExpPlace) (items : List Item) → LastPasses (ends_expression place) items → LastPasses ends_part items
 any_part ExpPlace.Atom items e = weaker ends_atom ends_part atom_part items e
 any_part _ items e = e
 
-named_variable_ends : (named : Named) → IsNamedVariable named → Ends ends_atom (variable_items named)
+named_variable_ends : (named : Named) → IsNamedVariable named → LastPasses ends_atom (variable_items named)
 named_variable_ends (Named.Name name) (inl is) = class_ends ends_atom Class.VarId name is refl
 named_variable_ends (Named.Name name) (inr is) = class_ends ends_atom Class.QVarId name is refl
 named_variable_ends (Named.Symbol left symbol right) is = right_paren ends_atom atoms_close (left ∷ symbol ∷ []) right is.1.1
 
 -- all that stands on a level. A block ends with the word before it, if it has no lexeme
 record Below (levels : ℕ) : Type 0 where
-  exp : (free : Colons) (place : ExpPlace) (part : Exp) → (nodes levels).exp free place part → Ends (ends_expression place) (exp_items part)
-  decl : (place : DeclPlace) (part : Decl) → (nodes levels).decl place part → Ends (ends_declaration place) (decl_items part)
-  alt : (part : Alt) → (nodes levels).alt part → Ends ends_part (alt_items part)
-  locals : (word : Item) → ends_part word.lexeme.class word.lexeme.text ≡ true → (block : Block Decl) → (nodes levels).declarations DeclPlace.Local block → Ends ends_part (word ∷ block_items decl_items block)
-  alternatives : (word : Item) → ends_part word.lexeme.class word.lexeme.text ≡ true → (block : Block Alt) → (nodes levels).alternatives block → Ends ends_part (word ∷ block_items alt_items block)
+  exp : (free : Colons) (place : ExpPlace) (part : Exp) → (nodes levels).exp free place part → LastPasses (ends_expression place) (exp_items part)
+  decl : (place : DeclPlace) (part : Decl) → (nodes levels).decl place part → LastPasses (ends_declaration place) (decl_items part)
+  alt : (part : Alt) → (nodes levels).alt part → LastPasses ends_part (alt_items part)
+  locals : (word : Item) → ends_part word.lexeme.class word.lexeme.text ≡ true → (block : Block Decl) → (nodes levels).declarations DeclPlace.Local block → LastPasses ends_part (word ∷ block_items decl_items block)
+  alternatives : (word : Item) → ends_part word.lexeme.class word.lexeme.text ≡ true → (block : Block Alt) → (nodes levels).alternatives block → LastPasses ends_part (word ∷ block_items alt_items block)
 
-exp_part : (levels : ℕ) → Below levels → (free : Colons) (place : ExpPlace) (part : Exp) → (nodes levels).exp free place part → Ends ends_part (exp_items part)
+exp_part : (levels : ℕ) → Below levels → (free : Colons) (place : ExpPlace) (part : Exp) → (nodes levels).exp free place part → LastPasses ends_part (exp_items part)
 exp_part levels below free place part is = any_part place (exp_items part) (below.exp free place part is)
 
-operands : (levels : ℕ) → Below levels → (free : Colons) (last : ExpPlace) (list : List (Operand Exp)) → AreExpOperands (nodes levels) free last list → Ends ends_part (flat_map (operand_items exp_items) list)
+operands : (levels : ℕ) → Below levels → (free : Colons) (last : ExpPlace) (list : List (Operand Exp)) → AreExpOperands (nodes levels) free last list → LastPasses ends_part (flat_map (operand_items exp_items) list)
 operands levels below free last [] is = elim is [ ]
 operands levels below free last (operand ∷ []) is =
     ends_before_nothing ends_part (operand_items exp_items operand) (last_operand_ends ends_part exp_items operand is.2 (exp_part levels below free last operand.part is.1))
 operands levels below free last (operand ∷ (next ∷ rest)) is =
     ends_after ends_part (operand_items exp_items operand) (flat_map (operand_items exp_items) (next ∷ rest)) (operands levels below free last (next ∷ rest) is.3)
 
-exp_level : (levels : ℕ) → Below levels → (free : Colons) (place : ExpPlace) (layer : Exp-F Decl Exp Qualifier Alt) → ExpProduction (nodes levels) free place layer → Ends (ends_expression place) (exp_joined layer)
+exp_level : (levels : ℕ) → Below levels → (free : Colons) (place : ExpPlace) (layer : Exp-F Decl Exp Qualifier Alt) → ExpProduction (nodes levels) free place layer → LastPasses (ends_expression place) (exp_joined layer)
 exp_level levels below free place (Exp-F.Variable named) is = atom_at place (variable_items named) (named_variable_ends named is)
 exp_level levels below free place (Exp-F.Constructor named) is = atom_at place (constructor_items named) (constructor_ends ends_atom atoms_close named is)
 exp_level levels below free place (Exp-F.Literal item) is = atom_at place (item ∷ []) (literal_ends ends_atom (λ text. (refl, refl, refl)) item is)
@@ -147,31 +147,31 @@ exp_level levels below free place (Exp-F.Annotated part colons ty) is =
 exp_level levels below free place (Exp-F.Fields part left fields right) is = elim is [ ]
 
 -- right sides
-guarded_ends : (levels : ℕ) → Below levels → (IsMark : Item → Type 0) → (guarded : Guarded Exp) → IsGuardedOver (nodes levels) IsMark guarded → Ends ends_part (guarded_items exp_items guarded)
+guarded_ends : (levels : ℕ) → Below levels → (IsMark : Item → Type 0) → (guarded : Guarded Exp) → IsGuardedOver (nodes levels) IsMark guarded → LastPasses ends_part (guarded_items exp_items guarded)
 guarded_ends levels below IsMark guarded is =
     ends_behind ends_part guarded.bar (exp_items guarded.guard ++ guarded.mark ∷ exp_items guarded.body) (ends_after ends_part (exp_items guarded.guard) (guarded.mark ∷ exp_items guarded.body)
     (ends_behind ends_part guarded.mark (exp_items guarded.body) (exp_part levels below Colons.Allowed ExpPlace.Whole guarded.body is.1.1.1)))
 
-body_ends : (levels : ℕ) → Below levels → (IsMark : Item → Type 0) → (body : Body Exp) → IsBodyOver (nodes levels) IsMark body → Ends ends_part (body_items exp_items body)
+body_ends : (levels : ℕ) → Below levels → (IsMark : Item → Type 0) → (body : Body Exp) → IsBodyOver (nodes levels) IsMark body → LastPasses ends_part (body_items exp_items body)
 body_ends levels below IsMark (Body.Plain mark body) is = ends_behind ends_part mark (exp_items body) (exp_part levels below Colons.Allowed ExpPlace.Whole body is.1)
 body_ends levels below IsMark (Body.Guarded list) is = all_end ends_part (guarded_items exp_items) (IsGuardedOver (nodes levels) IsMark) (guarded_ends levels below IsMark) list is.0 is.1
 
 right_side_ends : (levels : ℕ) → Below levels → (IsMark : Item → Type 0) → (body : Body Exp) → IsBodyOver (nodes levels) IsMark body → (locals : Option (Where Decl)) → IsWhereOver (nodes levels) locals
-    → Ends ends_part (body_items exp_items body ++ where_items decl_items locals)
+    → LastPasses ends_part (body_items exp_items body ++ where_items decl_items locals)
 right_side_ends levels below IsMark body is None w = ends_before_nothing ends_part (body_items exp_items body) (body_ends levels below IsMark body is)
 right_side_ends levels below IsMark body is (Some locals) w =
     ends_after ends_part (body_items exp_items body) (locals.word ∷ block_items decl_items locals.block)
     (below.locals locals.word (text_ends ends_part Class.ReservedId (codes "where") locals.word w.0 refl) locals.block w.1)
 
 -- declarations
-own_constructor_ends : (named : Built) → IsOwnConstructor named → Ends ends_part (constructor_items named)
+own_constructor_ends : (named : Built) → IsOwnConstructor named → LastPasses ends_part (constructor_items named)
 own_constructor_ends (Built.Name name) is = class_ends ends_part Class.ConId name is refl
 own_constructor_ends (Built.Symbol left symbol right) is = ends_with ends_part (left ∷ symbol ∷ []) right (text_ends ends_part Class.Special (codes ")") right is.1.1 refl)
 own_constructor_ends (Built.Unit left right) is = elim is [ ]
 own_constructor_ends (Built.EmptyList left right) is = elim is [ ]
 own_constructor_ends (Built.Tuple left commas right) is = elim is [ ]
 
-construction_ends : (levels : ℕ) (construction : Construction) → IsConstructionOver (nodes levels) construction → Ends ends_part (construction_items construction)
+construction_ends : (levels : ℕ) (construction : Construction) → IsConstructionOver (nodes levels) construction → LastPasses ends_part (construction_items construction)
 construction_ends levels (Construction.Prefix named []) is = ends_before_nothing ends_part (constructor_items named) (own_constructor_ends named is.0)
 construction_ends levels (Construction.Prefix named (ty ∷ types)) is =
     ends_after ends_part (constructor_items named) (flat_map ty_items (ty ∷ types)) (all_end ends_part ty_items ((nodes levels).ty TyPlace.Atomic) (types_last levels TyPlace.Atomic) (ty ∷ types) (λ e. let no : ⊥ = cc in no) is.1)
@@ -179,7 +179,7 @@ construction_ends levels (Construction.Infix first sign second) is =
     ends_after ends_part (ty_items first) (operator_items sign ++ ty_items second) (ends_after ends_part (operator_items sign) (ty_items second) (types_last levels TyPlace.Applied second is.1.1))
 construction_ends levels (Construction.Fields named left fields right) is = elim is [ ]
 
-new_construction_ends : (levels : ℕ) (construction : Construction) → IsNewConstructionOver (nodes levels) construction → Ends ends_part (construction_items construction)
+new_construction_ends : (levels : ℕ) (construction : Construction) → IsNewConstructionOver (nodes levels) construction → LastPasses ends_part (construction_items construction)
 new_construction_ends levels (Construction.Prefix named []) is = elim is [ ]
 new_construction_ends levels (Construction.Prefix named (ty ∷ [])) is =
     ends_after ends_part (constructor_items named) (ty_items ty ++ []) (ends_before_nothing ends_part (ty_items ty) (types_last levels TyPlace.Atomic ty is.1))
@@ -187,44 +187,44 @@ new_construction_ends levels (Construction.Prefix named (ty ∷ (next ∷ types)
 new_construction_ends levels (Construction.Infix first sign second) is = elim is [ ]
 new_construction_ends levels (Construction.Fields named left fields right) is = elim is [ ]
 
-own_operator_ends : (sign : Operator) → IsOwnOperator sign → Ends ends_part (operator_items sign)
+own_operator_ends : (sign : Operator) → IsOwnOperator sign → LastPasses ends_part (operator_items sign)
 own_operator_ends (Operator.Symbol sign) (inl is) = class_ends ends_part Class.VarSym sign is refl
 own_operator_ends (Operator.Symbol sign) (inr is) = class_ends ends_part Class.ConSym sign is refl
 own_operator_ends (Operator.Quoted left name right) (inl is) = text_ends ends_part Class.Special (codes "`") right is.1.1 refl
 own_operator_ends (Operator.Quoted left name right) (inr is) = text_ends ends_part Class.Special (codes "`") right is.1.1 refl
 
 -- an import: its module, or what the module is called, or the names
-names_end : {T : Type 0} (of : T → List Item) (Is : T → Type 0) (names : NameList T) → IsNameList Is names → Ends ends_import (name_list_items of names)
+names_end : {T : Type 0} (of : T → List Item) (Is : T → Type 0) (names : NameList T) → IsNameList Is names → LastPasses ends_import (name_list_items of names)
 names_end of Is names is =
     ends_behind ends_import names.left (flat_map (listed_items of) names.list ++ (maybe_item names.last_comma ++ names.right ∷ [])) (ends_after ends_import (flat_map (listed_items of) names.list) (maybe_item names.last_comma ++ names.right ∷ [])
     (ends_with ends_import (maybe_item names.last_comma) names.right (text_ends ends_import Class.Special (codes ")") names.right is.1.1.1 refl)))
 
-import_names_end : (item : Item) → IsOf Class.ConId item → (names : Option ImportNames) → AreImportNames names → Ends ends_import (item ∷ maybe_import_names names)
+import_names_end : (item : Item) → IsOf Class.ConId item → (names : Option ImportNames) → AreImportNames names → LastPasses ends_import (item ∷ maybe_import_names names)
 import_names_end item con None is = class_ends ends_import Class.ConId item con refl
 import_names_end item con (Some names) is =
     ends_behind ends_import item (maybe_item names.hiding ++ name_list_items imported_items names.list) (ends_after ends_import (maybe_item names.hiding) (name_list_items imported_items names.list) (names_end imported_items IsImported names.list is.1))
 
-alias_ends : (item : Item) → IsOf Class.ConId item → (alias : Option Alias) → IsAlias alias → (names : Option ImportNames) → AreImportNames names → Ends ends_import (item ∷ (maybe_alias alias ++ maybe_import_names names))
+alias_ends : (item : Item) → IsOf Class.ConId item → (alias : Option Alias) → IsAlias alias → (names : Option ImportNames) → AreImportNames names → LastPasses ends_import (item ∷ (maybe_alias alias ++ maybe_import_names names))
 alias_ends item con None a names is = import_names_end item con names is
 alias_ends item con (Some alias) a names is =
     ends_behind ends_import item (alias.word ∷ alias.name ∷ maybe_import_names names) (ends_behind ends_import alias.word (alias.name ∷ maybe_import_names names) (import_names_end alias.name a.1 names is))
 
-import_ends : (import : Import) → IsImport import → Ends ends_import (import_items import)
+import_ends : (import : Import) → IsImport import → LastPasses ends_import (import_items import)
 import_ends import is =
     ends_behind ends_import import.word (maybe_item import.qualified ++ import.«module» ∷ (maybe_alias import.alias ++ maybe_import_names import.names))
     (ends_after ends_import (maybe_item import.qualified) (import.«module» ∷ (maybe_alias import.alias ++ maybe_import_names import.names))
     (alias_ends import.«module» is.1.1.0 import.alias is.1.1.1.0 import.names is.1.1.1.1))
 
-import_at : (place : DeclPlace) (items : List Item) → takes_import place ≡ true → Ends ends_import items → Ends (ends_declaration place) items
+import_at : (place : DeclPlace) (items : List Item) → takes_import place ≡ true → LastPasses ends_import items → LastPasses (ends_declaration place) items
 import_at DeclPlace.First items t e = e
 import_at DeclPlace.Top items t e = let no : ⊥ = cc in elim no [ ]
 import_at DeclPlace.Local items t e = let no : ⊥ = cc in elim no [ ]
 
-decl_at : (takes : DeclPlace → Bool) → takes DeclPlace.First ≡ false → (place : DeclPlace) (items : List Item) → takes place ≡ true → Ends ends_part items → Ends (ends_declaration place) items
+decl_at : (takes : DeclPlace → Bool) → takes DeclPlace.First ≡ false → (place : DeclPlace) (items : List Item) → takes place ≡ true → LastPasses ends_part items → LastPasses (ends_declaration place) items
 decl_at takes none DeclPlace.First items t e = let no : ⊥ = cc in elim no [ ]
 decl_at takes none _ items t e = e
 
-decl_level : (levels : ℕ) → Below levels → (place : DeclPlace) (layer : Decl-F Decl Exp Qualifier Alt) → DeclProduction (nodes levels) place layer → Ends (ends_declaration place) (decl_joined layer)
+decl_level : (levels : ℕ) → Below levels → (place : DeclPlace) (layer : Decl-F Decl Exp Qualifier Alt) → DeclProduction (nodes levels) place layer → LastPasses (ends_declaration place) (decl_joined layer)
 decl_level levels below place (Decl-F.Import import) is =
     import_at place (import_items import) is.0
     (import_ends import is.1)
@@ -250,9 +250,9 @@ decl_level levels below place (Decl-F.Binding pattern body locals) is =
     decl_at takes_local refl place (pat_items pattern ++ (body_items exp_items body ++ where_items decl_items locals)) is.0
     (ends_after ends_part (pat_items pattern) (body_items exp_items body ++ where_items decl_items locals) (right_side_ends levels below IsEquals body is.2 locals is.3))
 
-alt_ends : (levels : ℕ) → Below levels → (alt : Alt) → IsAltOver (nodes levels) alt → Ends ends_part (alt_items alt)
+alt_ends : (levels : ℕ) → Below levels → (alt : Alt) → IsAltOver (nodes levels) alt → LastPasses ends_part (alt_items alt)
 alt_ends levels below alt is =
-    subst (Ends ends_part) (sym (yields_join_lem.alt alt)) (ends_after ends_part (pat_items (out-Alt alt).pattern) (body_items exp_items (out-Alt alt).body ++ where_items decl_items (out-Alt alt).locals)
+    subst (LastPasses ends_part) (sym (yields_join_lem.alt alt)) (ends_after ends_part (pat_items (out-Alt alt).pattern) (body_items exp_items (out-Alt alt).body ++ where_items decl_items (out-Alt alt).locals)
     (right_side_ends levels below IsArrow (out-Alt alt).body is.1.0 (out-Alt alt).locals is.1.1))
 
 all_below : (levels : ℕ) → Below levels
@@ -264,8 +264,8 @@ all_below zero = record {
   alternatives = λ word t block is. elim is [ ];
 }
 all_below (suc levels) = let below = all_below levels in record {
-  exp = λ free place part is. subst (Ends (ends_expression place)) (sym (yields_join_lem.exp part)) (exp_level levels below free place (out-Exp part) is);
-  decl = λ place part is. subst (Ends (ends_declaration place)) (sym (yields_join_lem.decl part)) (decl_level levels below place (out-Decl part) is);
+  exp = λ free place part is. subst (LastPasses (ends_expression place)) (sym (yields_join_lem.exp part)) (exp_level levels below free place (out-Exp part) is);
+  decl = λ place part is. subst (LastPasses (ends_declaration place)) (sym (yields_join_lem.decl part)) (decl_level levels below place (out-Decl part) is);
   alt = alt_ends levels below;
   locals = λ word t block is. block_ends ends_part decl_items ((nodes levels).decl DeclPlace.Local) refl refl (below.decl DeclPlace.Local) word t block.layout block.pieces is.0 is.1;
   alternatives = λ word t block is. block_ends ends_part alt_items (nodes levels).alt refl refl below.alt word t block.layout block.pieces is.0 is.1;

@@ -38,7 +38,7 @@ use Rattle.hr_grammar.proofs.walk.Names.{of_class, comma, variable, own_operator
 use Rattle.hr_grammar.proofs.walk.TypesAndPatterns.{types_keep, patterns_keep}
 use Rattle.hr_grammar.proofs.walk.Heads.{type_head_keeps, constructions_keep, new_construction_keeps, left_side_keeps, fixity_keeps}
 use Rattle.hr_grammar.proofs.walk.Imports.{import_keeps}
-use Rattle.hr_grammar_edge_laws.specs.Openings.{IsPlain, IsLaidBy}
+use Rattle.hr_grammar_edge_laws.specs.Openings.{IsNoOpening, IsLaidBy}
 use Rattle.hr_grammar_edge_laws.specs.Laws.{exp_stretch, alt_stretch}
 use Rattle.hr_grammar_edge_laws.proofs.Openings.{same, plain, join, ends_as, IsBlockBy, opened, piece_by, pieces_by, braced_by}
 use Rattle.hr_grammar_edge_laws.proofs.Plain.{of_text, plain_types, plain_patterns}
@@ -48,13 +48,13 @@ use Rattle.hr_grammar_edge_laws.proofs.Stretches.{Below, token, opens, exp_level
 abbrev turned_guarded : Guarded Exp → Guarded Laid
 turned_guarded g = record { bar = g.bar; guard = exp_stretch g.guard; mark = g.mark; body = exp_stretch g.body }
 
-guarded_by : (levels : ℕ) → Below levels → (IsMark : Item → Type 0) → ((item : Item) → IsMark item → IsPlain item)
+guarded_by : (levels : ℕ) → Below levels → (IsMark : Item → Type 0) → ((item : Item) → IsMark item → IsNoOpening item)
     → (guarded : Guarded Exp) → IsGuardedOver (nodes levels) IsMark guarded → IsLaidBy (guarded_items exp_items guarded) (guarded_laid (turned_guarded guarded))
 guarded_by levels below IsMark sign guarded is =
     join (token (codes "|") Class.ReservedOp guarded.bar is.0 refl) (join (below.exp Colons.Barred ExpPlace.Sequence guarded.guard is.1.0)
     (join (plain (guarded.mark ∷ []) (sign guarded.mark is.1.1.0, tt)) (below.exp Colons.Allowed ExpPlace.Whole guarded.body is.1.1.1)))
 
-guards_by : (levels : ℕ) → Below levels → (IsMark : Item → Type 0) → ((item : Item) → IsMark item → IsPlain item)
+guards_by : (levels : ℕ) → Below levels → (IsMark : Item → Type 0) → ((item : Item) → IsMark item → IsNoOpening item)
     → (list : List (Guarded Exp)) → AllByRecursion (IsGuardedOver (nodes levels) IsMark) list → IsLaidBy (flat_map (guarded_items exp_items) list) (row (map guarded_laid (map turned_guarded list)))
 guards_by levels below IsMark sign [] is = plain [] tt
 guards_by levels below IsMark sign (guarded ∷ list) is = join (guarded_by levels below IsMark sign guarded is.0) (guards_by levels below IsMark sign list is.1)
@@ -63,7 +63,7 @@ abbrev turned_body : Body Exp → Body Laid
 turned_body (Body.Plain mark body) = Body.Plain mark (exp_stretch body)
 turned_body (Body.Guarded list) = Body.Guarded (map turned_guarded list)
 
-body_by : (levels : ℕ) → Below levels → (IsMark : Item → Type 0) → ((item : Item) → IsMark item → IsPlain item)
+body_by : (levels : ℕ) → Below levels → (IsMark : Item → Type 0) → ((item : Item) → IsMark item → IsNoOpening item)
     → (body : Body Exp) → IsBodyOver (nodes levels) IsMark body → IsLaidBy (body_items exp_items body) (body_laid (turned_body body))
 body_by levels below IsMark sign (Body.Plain mark body) is = ends_as _ (join (plain (mark ∷ []) (sign mark is.0, tt)) (below.exp Colons.Allowed ExpPlace.Whole body is.1))
 body_by levels below IsMark sign (Body.Guarded list) is = ends_as _ (guards_by levels below IsMark sign list is.1)
@@ -81,10 +81,10 @@ with_where : (levels : ℕ) → Below levels → {items : List Item} (body : Bod
 with_where levels below {items} body is locals w turn s p =
     ends_as Ending.WhereBlock (join is (opened locals.word (opens (codes "where") locals.word w.0 refl) (below.declarations BlockKind.Declarations DeclPlace.Local locals.block w.1 turn s p)))
 
-equals_plain : (item : Item) → IsEquals item → IsPlain item
+equals_plain : (item : Item) → IsEquals item → IsNoOpening item
 equals_plain item is = of_text Class.ReservedOp (codes "=") item is refl
 
-arrow_plain : (item : Item) → IsArrow item → IsPlain item
+arrow_plain : (item : Item) → IsArrow item → IsNoOpening item
 arrow_plain item is = of_text Class.ReservedOp (codes "->") item is refl
 
 decl_level : (levels : ℕ) → Below levels → (place : DeclPlace) (layer : Decl-F Decl Exp Qualifier Alt) → DeclProduction (nodes levels) place layer → IsLaidBy (decl_items (roll-Decl layer)) (laid_of (roll-Decl layer))

@@ -29,7 +29,7 @@ use Rattle.hr_grammar.proofs.Joins.{exp_layers, qualifier_layers}
 use Rattle.hr_grammar.proofs.walk.Lists.{maybe, no_operator, all_of}
 use Rattle.hr_grammar.proofs.walk.Names.{minus, literal, constructor, named_variable, any_operator}
 use Rattle.hr_grammar.proofs.walk.TypesAndPatterns.{types_keep, patterns_keep}
-use Rattle.hr_grammar_edge_laws.specs.Openings.{is_opening, opens_block, IsPlain, ArePlain, IsLaidBy}
+use Rattle.hr_grammar_edge_laws.specs.Openings.{is_opening, opens_block, IsNoOpening, AreNoOpenings, IsLaidBy}
 use Rattle.hr_grammar_edge_laws.specs.Laws.{exp_stretch, qualifier_stretch, alt_stretch}
 use Rattle.hr_grammar_edge_laws.proofs.Openings.{same, plain, join, ends_as, IsBlockBy, join_block, opened, all_by, separated_by}
 use Rattle.hr_grammar_edge_laws.proofs.Plain.{of_text, special, plain_types, plain_patterns}
@@ -45,7 +45,7 @@ bracket text item is = plain (item ∷ []) (special text item is, tt)
 pub opens : (text : List ℕ) (word : Item) → IsWord text word → opens_block Class.ReservedId text ≡ true → is_opening word ≡ true
 opens text word is o = ap₂ opens_block is.0 is.1 ∙ o
 
-comma_plain : (item : Item) → IsComma item → IsPlain item
+comma_plain : (item : Item) → IsComma item → IsNoOpening item
 comma_plain item is = special (codes ",") item is
 
 -- all that stands on a level. A block's pieces are turned by what turns their parts
@@ -70,7 +70,7 @@ operands levels below free last (operand ∷ []) is =
     join (join (plain (maybe_item operand.minus) (maybe plain_patterns.joins IsMinus (minus plain_patterns) operand.minus is.0)) (join (below.exp free last operand.part is.1) (plain (maybe_operator operand.operator) (no_operator plain_patterns.joins operand.operator is.2)))) (plain [] tt)
 operands levels below free last (operand ∷ (next ∷ rest)) is =
     join (join (plain (maybe_item operand.minus) (maybe plain_patterns.joins IsMinus (minus plain_patterns) operand.minus is.0))
-    (join (below.exp free ExpPlace.Operand operand.part is.1) (plain (maybe_operator operand.operator) (subst (λ o. ArePlain (maybe_operator o)) (sym is.2.1) (any_operator plain_patterns is.2.0 is.2.2)))))
+    (join (below.exp free ExpPlace.Operand operand.part is.1) (plain (maybe_operator operand.operator) (subst (λ o. AreNoOpenings (maybe_operator o)) (sym is.2.1) (any_operator plain_patterns is.2.0 is.2.2)))))
     (operands levels below free last (next ∷ rest) is.3)
 
 qualifier_level : (levels : ℕ) → Below levels → (layer : Qualifier-F Decl Exp Qualifier Alt) → QualifierProduction (nodes levels) layer → IsLaidBy (qualifier_items (roll-Qualifier layer)) (qualifier_stretch (roll-Qualifier layer))

@@ -23,8 +23,8 @@ LastIs Is (item ∷ (next ∷ items)) = LastIs Is (next ∷ items)
 abbrev pub Passes : (Class → List ℕ → Bool) → Item → Type 0
 Passes test item = test item.lexeme.class item.lexeme.text ≡ true
 
-abbrev pub Ends : (Class → List ℕ → Bool) → List Item → Type 0
-Ends test = LastIs (Passes test)
+abbrev pub LastPasses : (Class → List ℕ → Bool) → List Item → Type 0
+LastPasses test = LastIs (Passes test)
 
 abbrev pub closing_brackets : List (List ℕ)
 closing_brackets = codes ")" ∷ codes "]" ∷ []
@@ -38,7 +38,7 @@ ends_type Class.Special text = is_one_of closing_brackets text
 ends_type _ text = false
 
 abbrev pub TypesEnd : Type 0
-TypesEnd = (levels : ℕ) (place : TyPlace) (ty : Ty) → (nodes levels).ty place ty → Ends ends_type (ty_items ty)
+TypesEnd = (levels : ℕ) (place : TyPlace) (ty : Ty) → (nodes levels).ty place ty → LastPasses ends_type (ty_items ty)
 
 -- a pattern: as `x`, `C`, `M.C`, `1`, `'c'`, `"s"`, `(x)`, `[x]` and `_` do
 abbrev pub ends_pattern : Class → List ℕ → Bool
@@ -53,7 +53,7 @@ ends_pattern Class.ReservedId text = is_spelled (codes "_") text
 ends_pattern _ text = false
 
 abbrev pub PatternsEnd : Type 0
-PatternsEnd = (levels : ℕ) (place : PatPlace) (pat : Pat) → (nodes levels).pat place pat → Ends ends_pattern (pat_items pat)
+PatternsEnd = (levels : ℕ) (place : PatPlace) (pat : Pat) → (nodes levels).pat place pat → LastPasses ends_pattern (pat_items pat)
 
 -- an atom: as `x`, `M.x`, `C`, `M.C`, `1`, `'c'`, `"s"`, `(x)` and `[x]` do
 abbrev pub ends_atom : Class → List ℕ → Bool
@@ -92,7 +92,7 @@ ends_expression ExpPlace.Atom = ends_atom
 ends_expression _ = ends_part
 
 abbrev pub ExpressionsEnd : Type 0
-ExpressionsEnd = (levels : ℕ) (free : Colons) (place : ExpPlace) (exp : Exp) → (nodes levels).exp free place exp → Ends (ends_expression place) (exp_items exp)
+ExpressionsEnd = (levels : ℕ) (free : Colons) (place : ExpPlace) (exp : Exp) → (nodes levels).exp free place exp → LastPasses (ends_expression place) (exp_items exp)
 
 -- an import: as `import M` and `import M (x)` do
 abbrev pub ends_import : Class → List ℕ → Bool
@@ -105,7 +105,7 @@ ends_declaration DeclPlace.First = ends_import
 ends_declaration _ = ends_part
 
 abbrev pub DeclarationsEnd : Type 0
-DeclarationsEnd = (levels : ℕ) (place : DeclPlace) (decl : Decl) → (nodes levels).decl place decl → Ends (ends_declaration place) (decl_items decl)
+DeclarationsEnd = (levels : ℕ) (place : DeclPlace) (decl : Decl) → (nodes levels).decl place decl → LastPasses (ends_declaration place) (decl_items decl)
 
 abbrev pub AlternativesEnd : Type 0
-AlternativesEnd = (levels : ℕ) (alt : Alt) → (nodes levels).alt alt → Ends ends_part (alt_items alt)
+AlternativesEnd = (levels : ℕ) (alt : Alt) → (nodes levels).alt alt → LastPasses ends_part (alt_items alt)

@@ -10,8 +10,8 @@ use Rattle.hr_tree.specs.Yields.{exp_items, decl_items, qualifier_items, alt_ite
 use Rattle.hr_grammar.specs.Nodes.{Colons, ExpPlace, DeclPlace}
 use Rattle.hr_grammar.specs.Expressions.{IsQualifierOver}
 use Rattle.hr_grammar.specs.Yields.{nodes, IsModule}
-use Rattle.hr_grammar.specs.Spans.{Laid, Span, decl_laid, exp_laid, qualifier_laid, alt_laid, laid_of, spans_of}
-use Rattle.hr_grammar_edge_laws.specs.Openings.{behind_openings, starts_of, IsLaidBy}
+use Rattle.hr_grammar.specs.Spans.{Laid, BlockSpan, decl_laid, exp_laid, qualifier_laid, alt_laid, laid_of, spans_of}
+use Rattle.hr_grammar_edge_laws.specs.Openings.{behind_openings, block_starts, IsLaidBy}
 
 -- the stretches of expressions, qualifiers and alternatives; `laid_of` gives those of declarations
 abbrev pub exp_stretch : Exp → Laid
@@ -28,7 +28,7 @@ abbrev pub body_start : Module → ℕ
 body_start tree = length (header_items tree.header)
 
 -- the number of lexemes of a module's body, its first block
-abbrev pub body_extent : List Span → ℕ
+abbrev pub body_extent : List BlockSpan → ℕ
 body_extent [] = 0
 body_extent (body ∷ others) = body.extent
 
@@ -40,5 +40,5 @@ pub record BlocksBegin : Type 0 where
   pub qualifiers : (levels : ℕ) (qualifier : Qualifier) → IsQualifierOver (nodes levels) qualifier → IsLaidBy (qualifier_items qualifier) (qualifier_stretch qualifier)
   pub alternatives : (levels : ℕ) (alt : Alt) → (nodes levels).alt alt → IsLaidBy (alt_items alt) (alt_stretch alt)
   pub modules : (levels : ℕ) (tree : Module) → IsModule levels tree
-      → starts_of (spans_of tree) ≡ body_start tree ∷ behind_openings (body_start tree) (drop (body_start tree) (module_items tree))
+      → block_starts (spans_of tree) ≡ body_start tree ∷ behind_openings (body_start tree) (drop (body_start tree) (module_items tree))
   pub bodies : (levels : ℕ) (tree : Module) → IsModule levels tree → body_extent (spans_of tree) ≡ length (drop (body_start tree) (module_items tree))

@@ -5,7 +5,7 @@ use lib.Chars.{codes}
 use Rattle.hr_base.specs.declared.lexeme.Class.{Class}
 use Rattle.hr_base.specs.declared.lexeme.Item.{Item}
 use Rattle.hr_rules.specs.Names.{is_one_of}
-use Rattle.hr_grammar.specs.Spans.{Laid, Span}
+use Rattle.hr_grammar.specs.Spans.{Laid, BlockSpan}
 
 abbrev pub opening_words : List (List ℕ)
 opening_words = codes "let" ∷ codes "of" ∷ codes "where" ∷ []
@@ -23,18 +23,18 @@ behind_openings n [] = []
 behind_openings n (item ∷ items) = if is_opening item then suc n ∷ behind_openings (suc n) items else behind_openings (suc n) items
 
 -- no item is an opening word
-abbrev pub IsPlain : Item → Type 0
-IsPlain item = is_opening item ≡ false
+abbrev pub IsNoOpening : Item → Type 0
+IsNoOpening item = is_opening item ≡ false
 
-abbrev pub ArePlain : List Item → Type 0
-ArePlain = AllByRecursion IsPlain
+abbrev pub AreNoOpenings : List Item → Type 0
+AreNoOpenings = AllByRecursion IsNoOpening
 
 -- the numbers of the first lexemes of blocks
-abbrev pub starts_of : List Span → List ℕ
-starts_of spans = map (λ (span : Span). span.start) spans
+abbrev pub block_starts : List BlockSpan → List ℕ
+block_starts spans = map (λ (span : BlockSpan). span.start) spans
 
 -- a stretch has as many lexemes as there are items, and its blocks begin behind the opening words among them,
 -- whichever block is round it and however many lexemes stand before it
 pub record IsLaidBy (items : List Item) (laid : Laid) : Type 0 where
   pub extent : laid.extent ≡ length items
-  pub starts : (m n : ℕ) → starts_of (laid.blocks m n) ≡ behind_openings n items
+  pub starts : (m n : ℕ) → block_starts (laid.blocks m n) ≡ behind_openings n items

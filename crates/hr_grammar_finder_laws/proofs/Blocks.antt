@@ -15,7 +15,7 @@ use Rattle.hr_grammar.specs.Nodes.{DeclPlace}
 use Rattle.hr_grammar_cases.specs.Readings.{given}
 use Rattle.hr_grammar_cases.specs.Readings as reading
 use Rattle.hr_grammar_cases.specs.Blocks.{Parts, takes_semicolon, pieces_reading, braced_reading, implicit_reading, layout_reading, block_reading}
-use Rattle.hr_grammar_finder_laws.specs.Ways.{Among, Way, Finder, gives, made_by, behind, ◌▶◌, one}
+use Rattle.hr_grammar_finder_laws.specs.Ways.{Among, Way, Finder, gives, made_by, followed_by, ◌▶◌, one}
 use Rattle.hr_grammar_finder_laws.specs.Tests.{is_special}
 use Rattle.hr_grammar_finder_laws.specs.Blocks.{PartFinder, semicolon, ends, starting, semicolon_then, part_then, piece_ways, pieces_by, pieces, braced_ways, braced_by, braced, opened_as, implicit, without_braces, with_braces, block_ways, block}
 use Rattle.hr_grammar_finder_laws.proofs.Ways.{Sound, Matches, is_sound, gives_sound, made_sound, made_found, on_sound_by, on_sound, found_on, behind_sound, behind_found, any_sound, chosen, among_map, if_among, among_if, both_are, are_both, one_matches, then_matches}
@@ -80,10 +80,10 @@ ends_sound {T} parts kind n place ending = record {
 
 part_sound : {T : Type 0} (parts : Parts T) (found : PartFinder T) → PartsMatch parts found → (kind : BlockKind) (n : ℕ) (place : DeclPlace) (ending : Ending)
     (rest : DeclPlace → Ending → Finder (List (Piece T))) → ((next : DeclPlace) (end : Ending) → Sound (pieces_reading parts kind n next end) (rest next end))
-    → Sound (pieces_reading parts kind n place ending) (made_by part_then (starting n ending (behind (found n place) (λ q. rest q.1.0 q.1.1))))
+    → Sound (pieces_reading parts kind n place ending) (made_by part_then (starting n ending (followed_by (found n place) (λ q. rest q.1.0 q.1.1))))
 part_sound {T} parts found m kind n place ending rest s = made_sound part_then (record {
   sound = λ p ts us h.
-      let k = on_sound_by (starts_part n ending ts) (behind (found n place) (λ q. rest q.1.0 q.1.1)) (p, us) (mark false ts) h in (
+      let k = on_sound_by (starts_part n ending ts) (followed_by (found n place) (λ q. rest q.1.0 q.1.1)) (p, us) (mark false ts) h in (
         mark false ts,
         (k.0, refl),
         (
@@ -134,8 +134,8 @@ pieces_complete {T} parts found m less kind n (suc k) place ending (Piece.Semico
     (pieces_complete parts found m less kind n k place Ending.Nothing xs r.0 us (shorter (length r.0) (length ts) k (semicolon_shrinks n item ts r.0 r.1.1) l) r.2)))
 pieces_complete {T} parts found m less kind n (suc k) place ending (Piece.Part part ∷ xs) ts us l r =
     chosen (piece_ways found kind n place ending (pieces_by found kind n k)) 2 _ ts us
-    (made_found part_then (starting n ending (behind (found n place) (λ q. pieces_by found kind n k q.1.0 q.1.1))) ((part, (r.2.0, r.2.1)), xs) ts us
-    (found_on (starts_part n ending ts) (behind (found n place) (λ q. pieces_by found kind n k q.1.0 q.1.1)) (((part, (r.2.0, r.2.1)), xs), us) (mark false ts) r.1.0
+    (made_found part_then (starting n ending (followed_by (found n place) (λ q. pieces_by found kind n k q.1.0 q.1.1))) ((part, (r.2.0, r.2.1)), xs) ts us
+    (found_on (starts_part n ending ts) (followed_by (found n place) (λ q. pieces_by found kind n k q.1.0 q.1.1)) (((part, (r.2.0, r.2.1)), xs), us) (mark false ts) r.1.0
     (behind_found (found n place) (λ q. pieces_by found kind n k q.1.0 q.1.1) (part, (r.2.0, r.2.1)) xs (mark false ts) r.2.2.0 us
     ((m n place).complete (part, (r.2.0, r.2.1)) (mark false ts) r.2.2.0 (subst (λ vs. parts n place r.2.0 part r.2.1 vs r.2.2.0) r.1.1 r.2.2.1))
     (pieces_complete parts found m less kind n k r.2.0 r.2.1 xs r.2.2.0 us (marked_fits k ts r.0 r.2.2.0 r.1.1 (less n place r.2.0 part r.2.1 r.0 r.2.2.0 r.2.2.1) l) r.2.2.2))))
@@ -188,8 +188,8 @@ braced_complete parts found m less (suc k) place begins (Piece.Semicolon item �
     (braced_complete parts found m less k place true xs r.0 us (shorter (length r.0) (length ts) k (one_shrinks 0 IsSemicolon item ts r.0 r.1) l) r.2)))
 braced_complete parts found m less (suc k) place begins (Piece.Part part ∷ xs) ts us l r =
     chosen (braced_ways found place begins (braced_by found k)) 2 _ ts us
-    (found_on begins (made_by part_then (behind (found 0 place) (λ q. braced_by found k q.1.0 false))) (Piece.Part part ∷ xs, us) ts r.0
-    (made_found part_then (behind (found 0 place) (λ q. braced_by found k q.1.0 false)) ((part, (r.1.0, r.1.1)), xs) ts us
+    (found_on begins (made_by part_then (followed_by (found 0 place) (λ q. braced_by found k q.1.0 false))) (Piece.Part part ∷ xs, us) ts r.0
+    (made_found part_then (followed_by (found 0 place) (λ q. braced_by found k q.1.0 false)) ((part, (r.1.0, r.1.1)), xs) ts us
     (behind_found (found 0 place) (λ q. braced_by found k q.1.0 false) (part, (r.1.0, r.1.1)) xs ts r.1.2.0 us
     ((m 0 place).complete (part, (r.1.0, r.1.1)) ts r.1.2.0 r.1.2.1)
     (braced_complete parts found m less k r.1.0 false xs r.1.2.0 us (shorter (length r.1.2.0) (length ts) k (less 0 place r.1.0 part r.1.1 ts r.1.2.0 r.1.2.1) l) r.1.2.2))))

@@ -14,7 +14,7 @@ use Rattle.hr_tree.specs.declared.modules.Header.{Header}
 use Rattle.hr_tree.specs.declared.modules.Module.{Module}
 use Rattle.hr_tree.specs.Lists.{block_items}
 use Rattle.hr_tree.specs.Yields.{decl_items, alt_items}
-use Rattle.hr_grammar.specs.Firsts.{Begins, opens_part, kind_at}
+use Rattle.hr_grammar.specs.Firsts.{FirstHas, opens_part, kind_at}
 use Rattle.hr_grammar.specs.Nodes.{DeclPlace}
 use Rattle.hr_grammar.specs.Yields.{Yields, nesting_limit}
 use Rattle.hr_grammar.proofs.PartFirsts.{declarations_begin_lem, alternatives_begin_lem}
@@ -123,7 +123,7 @@ given_stays : (items : List Item) (R : Reading) → Gives items R → (ts us : L
 given_stays items R g ts us r =
     subst (λ k. k ≤ length ts) (left_length us) (subst (λ k. length (items_left us) ≤ k) (sym (ap length (g.gives ts us r)) ∙ left_length ts) (both_length items (items_left us)))
 
-begun : (test : Role → Bool) (items : List Item) (R : Reading) → Begins test items → Gives items R → (ts us : List Placed) → R ts us → length us < length ts
+begun : (test : Role → Bool) (items : List Item) (R : Reading) → FirstHas test items → Gives items R → (ts us : List Placed) → R ts us → length us < length ts
 begun test [] R b g ts us r = elim b [ ]
 begun test (item ∷ items) R b g ts us r =
     subst (λ k. k < length ts) (left_length us)

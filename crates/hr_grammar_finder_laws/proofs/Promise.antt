@@ -7,7 +7,7 @@ use Rattle.hr_grammar.specs.Yields.{nesting_limit}
 use Rattle.hr_grammar_cases.specs.Modules.{Derives}
 use Rattle.hr_grammar_cases_laws.proofs.Agreeing.{yielded_is_derived_lem}
 use Rattle.hr_grammar_finder_laws.specs.Ways.{Among}
-use Rattle.hr_grammar_finder_laws.specs.Worked.{IsAlone, HasNoTree}
+use Rattle.hr_grammar_finder_laws.specs.Worked.{IsAlone, FindsNoTree}
 use Rattle.hr_grammar_finder_laws.specs.Promise.{IsTreeOf, ReadAreFound, IsOnlyTree, HaveNoTree, WorkedTextsAreRead}
 use Rattle.hr_grammar_finder_laws.proofs.Modules.{found_are_read_lem, derived_are_found_lem, the_only}
 use Rattle.hr_grammar_finder_laws.proofs.Worked.{worked_texts_are_found_lem}
@@ -34,7 +34,7 @@ only tree items alone =
       only = λ other is. the_only other tree (subst (λ trees. Among other trees) alone (read_are_found_lem.found whole other is));
     }
 
-no_tree : {text : List ℕ} {items : List Item} → HasNoTree text items → HaveNoTree items
+no_tree : {text : List ℕ} {items : List Item} → FindsNoTree text items → HaveNoTree items
 no_tree {text} {items} has tail tree is = read_are_found_lem.none (record { list = items; tail = tail }) (has.found tail) tree is
 
 pub worked_texts_are_read_lem : WorkedTextsAreRead
@@ -48,7 +48,7 @@ worked_texts_are_read_lem = let found = worked_texts_are_found_lem in record {
   case_in_sequence = only _ _ found.case_in_sequence.alone;
   case_in_case = only _ _ found.case_in_case.alone;
   where_in_let = only _ _ found.where_in_let.alone;
-  closing = no_tree found.closing;
+  unopened = no_tree found.unopened;
   unclosed = no_tree found.unclosed;
   class_word = no_tree found.class_word;
   let_without_in = no_tree found.let_without_in;

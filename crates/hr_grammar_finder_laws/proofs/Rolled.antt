@@ -25,7 +25,7 @@ use Rattle.hr_tree.specs.declared.modules.Module.{Module}
 use Rattle.hr_grammar.specs.Yields.{nesting_limit}
 use Rattle.hr_grammar_finder_laws.specs.Modules.{trees_of}
 use Rattle.hr_grammar_finder_laws.specs.Worked.{IsAlone, case_in_tuple_items, case_in_comprehension_items, case_in_sequence_items, case_in_case_items, where_in_let_items}
-use Rattle.hr_grammar.specs.Worked.{item, word, bracket, joint, case_of, mark, name, variable, number, bound, only, alternative, defines, case_in_tuple, case_in_comprehension, case_in_sequence, case_in_case, where_in_let}
+use Rattle.hr_grammar.specs.Worked.{item, word, bracket, joint, case_of, reserved, name, variable, number, bound, only, alternative, defines, case_in_tuple, case_in_comprehension, case_in_sequence, case_in_case, where_in_let}
 
 -- a tree, and what it is made of
 record Made {T : Type 0} (tree : T) : Type 0 where
@@ -115,7 +115,7 @@ made_let {decl} {body} first in_word col d b = record {
 abbrev made_module : {body : Exp} (text : List ℕ) → Made body → Made (defines text body)
 made_module {body} text b =
     let p : Made (Bound (name [] text)) = record { made = roll-Pat (Pat-F.Variable (name [] text)); same = rolls-Bound (name [] text) } in
-    let d = made_binding (mark (codes "=")) p b in
+    let d = made_binding (reserved (codes "=")) p b in
     record {
       made = record { header = None; body = only 1 d.made; tail = [] };
       same = λ j. record { header = None; body = only 1 (d.same j); tail = [] };
@@ -136,15 +136,15 @@ made_tuple =
 abbrev made_qualified : Made (defines (codes "a") case_in_comprehension)
 made_qualified =
     made_module (codes "a")
-    (made_comprehension (bracket (codes "[")) (mark (codes "|")) (joint (codes "]"))
+    (made_comprehension (bracket (codes "[")) (reserved (codes "|")) (joint (codes "]"))
     (made_case_of (item Class.ReservedId [] (codes "case")) 16
-    (made_infix (Operator.Symbol (mark (codes ":"))) (made_number (codes "1")) (made_constructor (Built.EmptyList (bracket (codes "[")) (joint (codes "]"))))))
-    (made_generator (mark (codes "<-")) (made_bound (codes "y")) (made_variable (codes "z"))))
+    (made_infix (Operator.Symbol (reserved (codes ":"))) (made_number (codes "1")) (made_constructor (Built.EmptyList (bracket (codes "[")) (joint (codes "]"))))))
+    (made_generator (reserved (codes "<-")) (made_bound (codes "y")) (made_variable (codes "z"))))
 
 abbrev made_sequence : Made (defines (codes "a") case_in_sequence)
 made_sequence =
     made_module (codes "a")
-    (made_from (bracket (codes "[")) (mark (codes "..")) (joint (codes "]")) (made_case_of (item Class.ReservedId [] (codes "case")) 16 (made_number (codes "1"))))
+    (made_from (bracket (codes "[")) (reserved (codes "..")) (joint (codes "]")) (made_case_of (item Class.ReservedId [] (codes "case")) 16 (made_number (codes "1"))))
 
 abbrev made_nested : Made (defines (codes "a") case_in_case)
 made_nested =
@@ -155,8 +155,8 @@ abbrev made_locals : Made (defines (codes "a") where_in_let)
 made_locals =
     made_module (codes "a")
     (made_let (word (codes "let")) (word (codes "in")) 9
-    (made_where (mark (codes "=")) (word (codes "where")) 21 (made_bound (codes "b")) (made_variable (codes "c"))
-    (made_binding (mark (codes "=")) (made_bound (codes "c")) (made_number (codes "1"))))
+    (made_where (reserved (codes "=")) (word (codes "where")) 21 (made_bound (codes "b")) (made_variable (codes "c"))
+    (made_binding (reserved (codes "=")) (made_bound (codes "c")) (made_number (codes "1"))))
     (made_variable (codes "b")))
 
 -- so the reader finds just this tree

@@ -8,11 +8,11 @@ use Rattle.hr_rules.specs.Roles.{role_of}
 use Rattle.hr_grammar.specs.Yields.{nesting_limit}
 use Rattle.hr_grammar_finder_laws.specs.Ways.{Among}
 use Rattle.hr_grammar_finder_laws.specs.Modules.{trees_of}
-use Rattle.hr_grammar_finder_laws.specs.Short.{lists_of, bound, ShortTextsHaveOneTree}
+use Rattle.hr_grammar_finder_laws.specs.Short.{lists_of, after_a, ShortTextsHaveOneTree}
 use Rattle.hr_grammar_finder_laws.proofs.Modules.{derived_are_found_lem}
 
 abbrev is_ambiguous : List ℕ → List Item → Bool
-is_ambiguous tail items = nat_lt 1 (length (trees_of nesting_limit (record { list = bound items; tail = tail })))
+is_ambiguous tail items = nat_lt 1 (length (trees_of nesting_limit (record { list = after_a items; tail = tail })))
 
 none_ambiguous : (tail : List ℕ) → list_any (is_ambiguous tail) (lists_of 3) ≡ false
 unfolding can_follow role_of
@@ -36,7 +36,7 @@ one_at_most x y (z ∷ (w ∷ zs)) l h k = absurd (omega arith)
 
 pub short_texts_lem : ShortTextsHaveOneTree
 short_texts_lem items among tree other d e same =
-    let trees = trees_of nesting_limit (record { list = bound items; tail = other.tail }) in
+    let trees = trees_of nesting_limit (record { list = after_a items; tail = other.tail }) in
     let few : length trees ≤ 1 = ltb-false 1 (length trees) (not_of_any (is_ambiguous other.tail) items (lists_of 3) (none_ambiguous other.tail) among) in
-    one_at_most tree other trees few (derived_are_found_lem.found nesting_limit (record { list = bound items; tail = other.tail }) tree d same)
-    (derived_are_found_lem.found nesting_limit (record { list = bound items; tail = other.tail }) other e refl)
+    one_at_most tree other trees few (derived_are_found_lem.found nesting_limit (record { list = after_a items; tail = other.tail }) tree d same)
+    (derived_are_found_lem.found nesting_limit (record { list = after_a items; tail = other.tail }) other e refl)

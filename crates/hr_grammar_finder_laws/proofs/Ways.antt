@@ -7,7 +7,7 @@ use Rattle.hr_rules.specs.declared.block.Placed.{Placed}
 use Rattle.hr_rules.specs.Blocks.{goes_on}
 use Rattle.hr_grammar_cases.specs.Readings.{Reading, ◌▷◌, given}
 use Rattle.hr_grammar_cases.specs.Readings as reading
-use Rattle.hr_grammar_finder_laws.specs.Ways.{Among, Way, Finder, any_of, none, gives, ◌⊕◌, on, passing, made_by, behind, ◌▶◌, one, maybe, inside, ends_as}
+use Rattle.hr_grammar_finder_laws.specs.Ways.{Among, Way, Finder, any_of, none, gives, ◌⊕◌, on, passing, made_by, followed_by, ◌▶◌, one, maybe, inside, ends_as}
 
 -- lists of ways
 pub among_left : {T : Type 0} (x : T) (xs ys : List T) → Among x xs → Among x (xs ++ ys)
@@ -154,7 +154,7 @@ moved : {A : Type 0} (P : A → Type 0) (a b : A) → b ≡ a → P a → P b
 moved P a b e p = subst P (sym e) p
 
 pub behind_sound : {S T : Type 0} {R : S → Reading} {Q : S → T → Reading} {f : Finder S} {g : S → Finder T}
-    → Sound R f → ((x : S) → Sound (Q x) (g x)) → Sound (λ (p : S × T). R p.0 ▷ Q p.0 p.1) (behind f g)
+    → Sound R f → ((x : S) → Sound (Q x) (g x)) → Sound (λ (p : S × T). R p.0 ▷ Q p.0 p.1) (followed_by f g)
 behind_sound {S} {T} {R} {Q} {f} {g} m n = record {
   sound = λ x ts us h.
       let k = among_flat (λ (way : Way S). map (λ (next : Way T). ((way.0, next.0), next.1)) (g way.0 way.1)) (f ts) (x, us) h in
@@ -163,13 +163,13 @@ behind_sound {S} {T} {R} {Q} {f} {g} m n = record {
 }
 
 pub behind_found : {S T : Type 0} (f : Finder S) (g : S → Finder T) (x : S) (y : T) (ts vs us : List Placed)
-    → Among {T = Way S} (x, vs) (f ts) → Among {T = Way T} (y, us) (g x vs) → Among {T = Way (S × T)} ((x, y), us) (behind f g ts)
+    → Among {T = Way S} (x, vs) (f ts) → Among {T = Way T} (y, us) (g x vs) → Among {T = Way (S × T)} ((x, y), us) (followed_by f g ts)
 behind_found {S} {T} f g x y ts vs us h k =
     flat_among (λ (way : Way S). map (λ (next : Way T). ((way.0, next.0), next.1)) (g way.0 way.1)) (f ts) (x, vs) ((x, y), us) h
     (map_among (λ (next : Way T). ((x, next.0), next.1)) (g x vs) (y, us) k)
 
 pub behind_matches : {S T : Type 0} {R : S → Reading} {Q : S → T → Reading} {f : Finder S} {g : S → Finder T}
-    → Matches R f → ((x : S) → Matches (Q x) (g x)) → Matches (λ (p : S × T). R p.0 ▷ Q p.0 p.1) (behind f g)
+    → Matches R f → ((x : S) → Matches (Q x) (g x)) → Matches (λ (p : S × T). R p.0 ▷ Q p.0 p.1) (followed_by f g)
 behind_matches {S} {T} {R} {Q} {f} {g} m n = record {
   sound = (behind_sound {R = R} {Q = Q} (is_sound m) (λ x. is_sound (n x))).sound;
   complete = λ x ts us r. behind_found f g x.0 x.1 ts r.0 us (m.complete x.0 ts r.0 r.1) ((n x.0).complete x.1 r.0 us r.2);

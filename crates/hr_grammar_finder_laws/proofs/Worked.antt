@@ -12,20 +12,20 @@ use Rattle.hr_grammar_cases.specs.Modules.{Derives}
 use Rattle.hr_grammar_cases.specs.Worked.{annotated_in_let_items, section_of_lambda_items, case_in_if_items, sum_behind_case_items, defines_a}
 use Rattle.hr_grammar_cases.proofs.Worked.{worked_texts_lem}
 use Rattle.hr_grammar_finder_laws.specs.Modules.{trees_of}
-use Rattle.hr_grammar_finder_laws.specs.Worked.{IsAlone, HasOneTree, HasSomeTree, HasNoTree, case_in_tuple_items, case_in_comprehension_items, case_in_sequence_items, case_in_case_items, where_in_let_items, module_items, braced_items, closing_items, unclosed_items, class_items, let_without_in_items, then_at_margin_items, twice_annotated_items, case_or_comprehension_items, WorkedTextsAreFound}
+use Rattle.hr_grammar_finder_laws.specs.Worked.{IsAlone, FindsOneTree, FindsSomeTree, FindsNoTree, case_in_tuple_items, case_in_comprehension_items, case_in_sequence_items, case_in_case_items, where_in_let_items, whole_module_items, braced_items, unopened_items, unclosed_items, class_items, let_without_in_items, then_at_margin_items, twice_annotated_items, case_or_comprehension_items, WorkedTextsAreFound}
 use Rattle.hr_grammar_finder_laws.proofs.Modules.{found_are_derived_lem, derived_are_found_lem, only_one}
 use Rattle.hr_grammar_finder_laws.proofs.Rolled.{tuple_alone, comprehension_alone, sequence_alone, nested_alone, locals_alone}
 use Rattle.hr_grammar_finder_laws.specs.Ways.{Among}
 
 -- one tree is found, and it is that which is derived
 one_tree : (text : List ℕ) (tree : Module) (items : List Item) → joined items [] ≡ text → Derives nesting_limit tree items
-    → length (trees_of nesting_limit (record { list = items; tail = tree.tail })) ≡ 1 → HasOneTree text tree items
+    → length (trees_of nesting_limit (record { list = items; tail = tree.tail })) ≡ 1 → FindsOneTree text tree items
 one_tree text tree items s d e =
     let found = derived_are_found_lem.found nesting_limit (record { list = items; tail = tree.tail }) tree d refl in
     record { spelled = s; alone = only_one tree (trees_of nesting_limit (record { list = items; tail = tree.tail })) e found; derived = d }
 
 -- this tree alone is found, so it is derived
-alone_tree : (text : List ℕ) (tree : Module) (items : List Item) → joined items [] ≡ text → IsAlone tree items → HasOneTree text tree items
+alone_tree : (text : List ℕ) (tree : Module) (items : List Item) → joined items [] ≡ text → IsAlone tree items → FindsOneTree text tree items
 alone_tree text tree items s e = record {
   spelled = s;
   alone = e;
@@ -33,7 +33,7 @@ alone_tree text tree items s e = record {
 }
 
 -- where none is found, none is derived
-no_tree : (text : List ℕ) (items : List Item) → joined items [] ≡ text → ((tail : List ℕ) → trees_of nesting_limit (record { list = items; tail = tail }) ≡ []) → HasNoTree text items
+no_tree : (text : List ℕ) (items : List Item) → joined items [] ≡ text → ((tail : List ℕ) → trees_of nesting_limit (record { list = items; tail = tail }) ≡ []) → FindsNoTree text items
 no_tree text items s e = record {
   spelled = s;
   found = e;
@@ -56,17 +56,17 @@ in_sum : length (trees_of nesting_limit (record { list = sum_behind_case_items; 
 unfolding can_follow role_of
 in_sum = refl
 
-whole : HasSomeTree (codes "module M (f,) where\nimport N ()\ndata T = C T | D\nf :: T -> T\nf x | y = z\n where y = x") module_items
+whole : FindsSomeTree (codes "module M (f,) where\nimport N ()\ndata T = C T | D\nf :: T -> T\nf x | y = z\n where y = x") whole_module_items
 unfolding can_follow role_of
 whole = record { spelled = refl; found = refl }
 
-braced : HasSomeTree (codes "{; a = b;; c + d = - 1; }") braced_items
+braced : FindsSomeTree (codes "{; a = b;; c + d = - 1; }") braced_items
 unfolding can_follow role_of
 braced = record { spelled = refl; found = refl }
 
-closing : (tail : List ℕ) → trees_of nesting_limit (record { list = closing_items; tail = tail }) ≡ []
+unopened : (tail : List ℕ) → trees_of nesting_limit (record { list = unopened_items; tail = tail }) ≡ []
 unfolding can_follow role_of
-closing tail = refl
+unopened tail = refl
 
 unclosed : (tail : List ℕ) → trees_of nesting_limit (record { list = unclosed_items; tail = tail }) ≡ []
 unfolding can_follow role_of
@@ -105,7 +105,7 @@ worked_texts_are_found_lem = record {
   where_in_let = alone_tree _ (defines_a where_in_let) where_in_let_items refl locals_alone;
   whole_module = whole;
   braced = braced;
-  closing = no_tree _ closing_items refl closing;
+  unopened = no_tree _ unopened_items refl unopened;
   unclosed = no_tree _ unclosed_items refl unclosed;
   class_word = no_tree _ class_items refl class_word;
   let_without_in = no_tree _ let_without_in_items refl let_without_in;

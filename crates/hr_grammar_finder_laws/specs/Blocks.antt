@@ -11,7 +11,7 @@ use Rattle.hr_tree.specs.declared.lists.Layout.{Layout}
 use Rattle.hr_tree.specs.declared.lists.Piece.{Piece}
 use Rattle.hr_grammar.specs.Nodes.{DeclPlace}
 use Rattle.hr_grammar.specs.Offside.{column_of}
-use Rattle.hr_grammar_finder_laws.specs.Ways.{Finder, any_of, gives, on, made_by, behind, ◌▶◌, one}
+use Rattle.hr_grammar_finder_laws.specs.Ways.{Finder, any_of, gives, on, made_by, followed_by, ◌▶◌, one}
 use Rattle.hr_grammar_finder_laws.specs.Tests.{is_special}
 
 -- a part in the block at a column, behind parts of a place: with its own place and its ending
@@ -42,7 +42,7 @@ abbrev pub piece_ways : {T : Type 0} → PartFinder T → BlockKind → ℕ → 
 piece_ways parts kind n place ending rest =
     ends kind n ending
     ∷ made_by semicolon_then (semicolon n ▶ rest place Ending.Nothing)
-    ∷ made_by part_then (starting n ending (behind (parts n place) (λ q. rest q.1.0 q.1.1)))
+    ∷ made_by part_then (starting n ending (followed_by (parts n place) (λ q. rest q.1.0 q.1.1)))
     ∷ []
 
 -- the pieces of a block of the kind at column n, behind a piece that ends so: no more than so many
@@ -58,7 +58,7 @@ abbrev pub braced_ways : {T : Type 0} → PartFinder T → DeclPlace → Bool �
 braced_ways parts place begins rest =
     gives []
     ∷ made_by semicolon_then (one 0 (is_special (codes ";")) ▶ rest place true)
-    ∷ on begins (made_by part_then (behind (parts 0 place) (λ q. rest q.1.0 false)))
+    ∷ on begins (made_by part_then (followed_by (parts 0 place) (λ q. rest q.1.0 false)))
     ∷ []
 
 abbrev pub braced_by : {T : Type 0} → PartFinder T → ℕ → DeclPlace → Bool → Finder (List (Piece T))

@@ -10,7 +10,7 @@ use Rattle.hr_grammar.specs.Worked.{annotated_in_let, section_of_lambda, case_in
 use Rattle.hr_grammar_cases.specs.Worked.{annotated_in_let_items, section_of_lambda_items, case_in_if_items, sum_behind_case_items, defines_a}
 use Rattle.hr_grammar_finder_laws.specs.Ways.{Among}
 use Rattle.hr_grammar_finder_laws.specs.Modules.{trees_of}
-use Rattle.hr_grammar_finder_laws.specs.Worked.{case_in_tuple_items, case_in_comprehension_items, case_in_sequence_items, case_in_case_items, where_in_let_items, closing_items, unclosed_items, class_items, let_without_in_items, then_at_margin_items, twice_annotated_items, case_or_comprehension_items}
+use Rattle.hr_grammar_finder_laws.specs.Worked.{case_in_tuple_items, case_in_comprehension_items, case_in_sequence_items, case_in_case_items, where_in_let_items, unopened_items, unclosed_items, class_items, let_without_in_items, then_at_margin_items, twice_annotated_items, case_or_comprehension_items}
 
 -- the tree yields the items, and its blocks stand
 pub record IsTreeOf (items : Items) (tree : Module) : Type 0 where
@@ -42,7 +42,7 @@ pub record WorkedTextsAreRead : Type 0 where
   pub case_in_sequence : IsOnlyTree (defines_a case_in_sequence) case_in_sequence_items
   pub case_in_case : IsOnlyTree (defines_a case_in_case) case_in_case_items
   pub where_in_let : IsOnlyTree (defines_a where_in_let) where_in_let_items
-  pub closing : HaveNoTree closing_items
+  pub unopened : HaveNoTree unopened_items
   pub unclosed : HaveNoTree unclosed_items
   pub class_word : HaveNoTree class_items
   pub let_without_in : HaveNoTree let_without_in_items

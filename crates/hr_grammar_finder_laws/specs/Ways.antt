@@ -49,12 +49,12 @@ abbrev pub made_by : {S T : Type 0} → (S → T) → Finder S → Finder T
 made_by {S} make finder ts = map (λ (way : Way S). (make way.0, way.1)) (finder ts)
 
 -- one behind another, which may depend on what was found
-abbrev pub behind : {S T : Type 0} → Finder S → (S → Finder T) → Finder (S × T)
-behind {S} {T} first second ts = flat_map (λ (way : Way S). map (λ (next : Way T). ((way.0, next.0), next.1)) (second way.0 way.1)) (first ts)
+abbrev pub followed_by : {S T : Type 0} → Finder S → (S → Finder T) → Finder (S × T)
+followed_by {S} {T} first second ts = flat_map (λ (way : Way S). map (λ (next : Way T). ((way.0, next.0), next.1)) (second way.0 way.1)) (first ts)
 
 infixr 6 ◌▶◌
 abbrev pub ◌▶◌ : {S T : Type 0} → Finder S → Finder T → Finder (S × T)
-first ▶ second = behind first (λ x. second)
+first ▶ second = followed_by first (λ x. second)
 
 -- the next lexeme, where it goes on in the block at column n, and its item passes the test
 abbrev pub one : ℕ → (Item → Bool) → Finder Item

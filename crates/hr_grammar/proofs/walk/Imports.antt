@@ -18,13 +18,13 @@ use Rattle.hr_tree.specs.Lists.{listed_items}
 use Rattle.hr_tree.specs.Yields.{maybe_members, export_items, imported_items, name_list_items, maybe_alias, maybe_import_names, import_items, maybe_exports, header_items}
 use Rattle.hr_grammar.specs.Words.{IsComma, IsImportWord}
 use Rattle.hr_grammar.specs.Spelled.{IsOwnConstructor}
-use Rattle.hr_grammar.specs.Imports.{AreMembers, IsNameList, IsExport, AreExports, IsImported, IsAlias, AreImportNames, IsImport}
+use Rattle.hr_grammar.specs.Imports.{AreTypeMembers, IsNameList, IsExport, AreExports, IsImported, IsAlias, AreImportNames, IsImport}
 use Rattle.hr_grammar.specs.Yields.{IsHeader}
 use Rattle.hr_grammar.proofs.walk.Rules.{InPatterns, InTrees}
 use Rattle.hr_grammar.proofs.walk.Lists.{put, maybe, separated}
 use Rattle.hr_grammar.proofs.walk.Names.{patterns_of, of_class, of_text, of_word, comma, large_name, own_constructor, variable, named_variable}
 
-members_keep : {P : List Item → Type 0} → InPatterns P → (members : Option Members) → AreMembers members → P (maybe_members members)
+members_keep : {P : List Item → Type 0} → InPatterns P → (members : Option Members) → AreTypeMembers members → P (maybe_members members)
 members_keep h None is = h.joins.nothing
 members_keep h (Some (Members.All left dots right)) is = h.parens left right (dots ∷ []) is.0 is.1.1 (of_text h Class.ReservedOp (codes "..") dots is.1.0 refl)
 members_keep h (Some (Members.Named left list right)) is =
