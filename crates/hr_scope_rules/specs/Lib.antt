@@ -1,0 +1,12 @@
+pub mod Binds
+pub mod Doubles
+pub mod Exports
+pub mod Found
+pub mod Imports
+pub mod Lists
+pub mod Modules
+pub mod Names
+pub mod Outline
+pub mod Phrases
+pub mod Scopes
+pub mod Strips
