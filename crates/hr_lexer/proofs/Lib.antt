@@ -20,6 +20,7 @@ pub mod QualifiedFound
 pub mod QualifiedRead
 pub mod QuotesRead
 pub mod RunsRead
+pub mod Shared
 pub mod SideBySide
 pub mod SpansJoin
 pub mod Splits

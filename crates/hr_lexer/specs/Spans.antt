@@ -1,5 +1,5 @@
 -- The items that stand at given places of a text, by the numbers of their characters.
-use Rattle.std.specs.Prelude.{ℕ, ◌≤◌, List, [], ◌∷◌, length, take, drop, ⊤}
+use Rattle.std.specs.Prelude.{◌≡◌, ℕ, ◌≤◌, List, [], ◌∷◌, ◌++◌, length, take, drop, ⊤}
 use Rattle.std.specs.Str.{encode_utf8_all}
 use Rattle.hr_base.specs.declared.lexeme.Item.{Item}
 use Rattle.hr_lexer.specs.declared.spans.Span.{Span}
@@ -29,3 +29,7 @@ past_spans (span ∷ spans) text = past_spans spans (past_span span text)
 abbrev pub AreWithin : List Span → List ℕ → Type 0
 AreWithin [] text = ⊤
 AreWithin (span ∷ spans) text = (span.trivia ≤ length text) × (span.taken.len ≤ length (drop span.trivia text)) × AreWithin spans (past_span span text)
+
+-- the whole text ends with these bytes
+abbrev pub EndsWith : List ℕ → List ℕ → Type 0
+EndsWith whole bytes = (front : List ℕ) × (whole ≡ front ++ bytes)
