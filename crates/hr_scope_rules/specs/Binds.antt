@@ -1,7 +1,5 @@
 -- What the names of a project are bound to: the Haskell 98 Report, sections 3.2, 4.4 and 5.5.
-use Rattle.std.specs.Prelude.{ℕ, ◌≡◌, ◌≢◌, ◌⊎◌, ◌<◌, ◌&&◌, ◌==◌, Bool, true, false, List, [], ◌∷◌, if◌then◌else◌, Option, Some, None, Contains, slice_get}
-use Rattle.std.specs.List.{list_any}
-use Rattle.std.specs.Str.{bytes_eq}
+use Rattle.std.specs.Prelude.{ℕ, ◌≡◌, ◌≢◌, List, [], ◌∷◌, Option, Some, None, Contains, slice_get}
 use Rattle.hr_base.specs.declared.bind.Binder.{Binder}
 use Rattle.hr_base.specs.declared.bind.Entity.{Entity}
 use Rattle.hr_base.specs.declared.bind.Name.{Name}

@@ -1,6 +1,5 @@
 -- Double declarations: the Haskell 98 Report, sections 3.17.1, 4.2, 4.4.1, 4.4.2 and 4.4.3.
 use Rattle.std.specs.Prelude.{ℕ, ◌≡◌, ◌<◌, List, Some, slice_get}
-use Rattle.hr_base.specs.declared.bind.Space.{Space}
 use Rattle.hr_scope_rules.specs.declared.role.Role.{Role}
 use Rattle.hr_scope_rules.specs.Strips.{Mark}
 

@@ -1,13 +1,12 @@
 -- What is in scope in a module, and what it exports: the Haskell 98 Report, sections 5.2, 5.3 and 5.5. A module is
 -- named by its number in the list of modules.
-use Rattle.std.specs.Prelude.{ℕ, zero, suc, ◌≡◌, ◌⊎◌, Bool, true, false, List, [], ◌∷◌, length, Option, Some, None, Contains, slice_get}
+use Rattle.std.specs.Prelude.{ℕ, zero, suc, ◌≡◌, ◌⊎◌, false, List, length, Option, Some, None, Contains, slice_get}
 use lib.Chars.{codes}
 use Rattle.hr_base.specs.declared.bind.Entity.{Entity}
 use Rattle.hr_base.specs.declared.bind.Name.{Name}
 use Rattle.hr_base.specs.declared.bind.Space.{Space}
 use Rattle.hr_base.specs.declared.lexeme.Item.{Item}
 use Rattle.hr_tree.specs.declared.names.Variable.{Variable}
-use Rattle.hr_tree.specs.declared.modules.Members.{Members}
 use Rattle.hr_tree.specs.declared.modules.NameList.{NameList}
 use Rattle.hr_tree.specs.declared.modules.Export.{Export}
 use Rattle.hr_tree.specs.declared.modules.Header.{Header}

@@ -1,19 +1,18 @@
 -- What a lexeme may be bound to, by a plain function: the list of the binders that it has.
-use Rattle.std.specs.Prelude.{ℕ, zero, suc, ◌+◌, ◌&&◌, ◌||◌, ◌==◌, Bool, true, false, not, List, [], ◌∷◌, ◌++◌, if◌then◌else◌, map, filter, Option, Some, None, is_some, slice_get}
-use Rattle.std.specs.List.{flat_map, list_any}
+use Rattle.std.specs.Prelude.{ℕ, ◌+◌, ◌&&◌, ◌==◌, Bool, true, false, not, List, [], ◌∷◌, ◌++◌, if◌then◌else◌, map, filter, Option, Some, None, slice_get}
+use Rattle.std.specs.List.{list_any}
 use Rattle.std.specs.Str.{bytes_eq}
 use Rattle.hr_base.specs.declared.bind.Binder.{Binder}
 use Rattle.hr_base.specs.declared.bind.Entity.{Entity}
 use Rattle.hr_base.specs.declared.bind.Name.{Name}
 use Rattle.hr_base.specs.declared.bind.Space.{Space}
-use Rattle.hr_base.specs.declared.place.Spot.{Spot}
 use Rattle.hr_tree.specs.declared.modules.Module.{Module}
 use Rattle.hr_scope_rules.specs.declared.role.Role.{Role}
 use Rattle.hr_scope_rules.specs.Names.{name_of, plain_name}
 use Rattle.hr_scope_rules.specs.Strips.{Region, Mark}
 use Rattle.hr_scope_rules.specs.Outline.{outline}
 use Rattle.hr_scope_rules.specs.Modules.{module_name, own_entities, entity_of}
-use Rattle.hr_scope_rules.specs.Scopes.{same_space, same_entity, is_named, is_part, all_parts, Scoped, standing, in_scope_as, exported_from, exports_of, scope_of}
+use Rattle.hr_scope_rules.specs.Scopes.{same_space, same_entity, is_named, is_part, all_parts, Scoped, standing, exported_from, exports_of, scope_of}
 
 abbrev pub same_regions : List Region → List Region → Bool
 same_regions [] [] = true

@@ -1,5 +1,5 @@
 -- What an import brings: the Haskell 98 Report, sections 5.3 and 5.6.1.
-use Rattle.std.specs.Prelude.{ℕ, ◌≡◌, ◌⊎◌, Bool, true, false, List, [], ◌∷◌, ◌++◌, if◌then◌else◌, map, Option, Some, None, is_some, Contains}
+use Rattle.std.specs.Prelude.{ℕ, ◌≡◌, ◌⊎◌, Bool, false, List, [], ◌∷◌, map, Option, Some, None, is_some, Contains}
 use Rattle.std.specs.List.{flat_map, list_any}
 use Rattle.std.specs.Str.{bytes_eq}
 use Rattle.hr_base.specs.declared.bind.Entity.{Entity}

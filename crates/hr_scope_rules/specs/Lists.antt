@@ -1,5 +1,5 @@
 -- The roles in the header of a module and in imports: the Haskell 98 Report, sections 5.2 and 5.3.
-use Rattle.std.specs.Prelude.{ℕ, ◌+◌, List, [], ◌∷◌, length, Option, Some, None}
+use Rattle.std.specs.Prelude.{ℕ, ◌+◌, [], ◌∷◌, length, Option, Some, None}
 use Rattle.hr_base.specs.declared.bind.Space.{Space}
 use Rattle.hr_base.specs.declared.lexeme.Item.{Item}
 use Rattle.hr_tree.specs.declared.modules.NameList.{NameList}

@@ -1,5 +1,5 @@
 -- Names as lexemes spell them: the Haskell 98 Report, sections 2.4 and 5.5.1.
-use Rattle.std.specs.Prelude.{ℕ, ◌==◌, if◌then◌else◌, List, [], ◌∷◌, Option, Some, None}
+use Rattle.std.specs.Prelude.{ℕ, ◌==◌, if◌then◌else◌, List, [], ◌∷◌, Some, None}
 use Rattle.hr_base.specs.declared.bind.Name.{Name}
 use Rattle.hr_base.specs.declared.bind.Space.{Space}
 use Rattle.hr_base.specs.declared.lexeme.Class.{Class}

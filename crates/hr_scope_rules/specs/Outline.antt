@@ -1,10 +1,8 @@
 -- The roles of all lexemes of a module, and the regions round them: the Haskell 98 Report, chapters 3 and 4. A
 -- region is a `let` or `where` block, or the patterns of an equation, a lambda, an alternative or a qualifier.
-use Rattle.std.specs.Prelude.{ℕ, ◌+◌, Bool, true, false, if◌then◌else◌, List, [], ◌∷◌, map, Option, Some, None, is_some}
+use Rattle.std.specs.Prelude.{ℕ, ◌+◌, Bool, true, false, if◌then◌else◌, List, [], ◌∷◌, map, Option, Some, None}
 use Rattle.std.specs.Str.{bytes_eq}
 use Rattle.hr_base.specs.declared.bind.Space.{Space}
-use Rattle.hr_base.specs.declared.lexeme.Item.{Item}
-use Rattle.hr_tree.specs.declared.names.Variable.{Variable}
 use Rattle.hr_tree.specs.declared.lists.Listed.{Listed}
 use Rattle.hr_tree.specs.declared.lists.Piece.{Piece}
 use Rattle.hr_tree.specs.declared.lists.Block.{Block}
@@ -17,7 +15,6 @@ use Rattle.hr_tree.specs.declared.declarations.Closed.{Closed}
 use Rattle.hr_tree.specs.declared.declarations.Body.{Body}
 use Rattle.hr_tree.specs.declared.declarations.Guarded.{Guarded}
 use Rattle.hr_tree.specs.declared.declarations.Where.{Where}
-use Rattle.hr_tree.specs.declared.expressions.Exp.{Exp}
 use Rattle.hr_tree.specs.declared.expressions.Decl.{Decl}
 use Rattle.hr_tree.specs.declared.expressions.Decl.TheOpen.{Decl-F, Exp-F, Qualifier-F, Alt-F}
 use Rattle.hr_tree.specs.declared.expressions.Decl.TheFolds.{fold-Decl}
@@ -81,9 +78,9 @@ in_where None start regions = regions
 in_where (Some locals) start regions = entered start 1 regions
 
 -- the head of a type's declaration: its variables are in a region of their own
-abbrev pub head_strip : ℕ → List Region → TypeHead → Strip
-head_strip start regions head =
-    one (Role.Declares Space.TypeName) head.name ▷ within (entered start 0 regions) (row (map (one Role.Parameter) head.variables))
+abbrev pub head_strip : TypeHead → Strip
+head_strip head =
+    placed (λ start regions. one (Role.Declares Space.TypeName) head.name ▷ within (entered start 0 regions) (row (map (one Role.Parameter) head.variables)))
 
 abbrev pub field_type_strip : FieldType → Strip
 field_type_strip field = listed_row (variable_strip (λ item. Role.Plain)) field.names ▷ bare (field.colons ∷ []) ▷ ty_strip field.ty
@@ -114,12 +111,9 @@ left_text left = by left.head where
 
 abbrev pub decl_layer : Decl-F Declared Strip Qualified Strip → Declared
 decl_layer (Decl-F.Import import) = alone (import_strip import)
-decl_layer (Decl-F.Synonym word head equals ty) =
-    alone (placed (λ start regions. bare (word ∷ []) ▷ head_strip start regions head ▷ bare (equals ∷ []) ▷ ty_strip ty))
-decl_layer (Decl-F.Data word head equals constructions) =
-    alone (placed (λ start regions. bare (word ∷ []) ▷ head_strip start regions head ▷ bare (equals ∷ []) ▷ listed_row construction_strip constructions))
-decl_layer (Decl-F.Newtype word head equals construction) =
-    alone (placed (λ start regions. bare (word ∷ []) ▷ head_strip start regions head ▷ bare (equals ∷ []) ▷ construction_strip construction))
+decl_layer (Decl-F.Synonym word head equals ty) = alone (bare (word ∷ []) ▷ head_strip head ▷ bare (equals ∷ []) ▷ ty_strip ty)
+decl_layer (Decl-F.Data word head equals constructions) = alone (bare (word ∷ []) ▷ head_strip head ▷ bare (equals ∷ []) ▷ listed_row construction_strip constructions)
+decl_layer (Decl-F.Newtype word head equals construction) = alone (bare (word ∷ []) ▷ head_strip head ▷ bare (equals ∷ []) ▷ construction_strip construction)
 decl_layer (Decl-F.Signature names colons ty) =
     alone (listed_row (variable_strip (λ item. Role.Signs)) names ▷ bare (colons ∷ []) ▷ ty_strip ty)
 decl_layer (Decl-F.Fixity word level operators) =

@@ -1,4 +1,5 @@
-//! The rules of modules and scopes as definitions on trees.
+//! The rules of modules and scopes as definitions on trees, and plain functions that compute them. Nothing here
+//! runs.
 #![tactic(auto)]
 
 mod role;
