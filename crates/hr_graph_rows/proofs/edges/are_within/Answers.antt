@@ -2,7 +2,7 @@ use Rattle.std.proofs.Common.{◌<◌, ℕ, subst, arith}
 use Rattle.std.proofs.lemmas.List.{take_all}
 use Rattle.std.proofs.lemmas.List.Elements.{All-more}
 use Rattle.hr_graph.specs.Graph.{IsWithin}
-use Rattle.hr_graph.proofs.tests.ends_within.Goals as goal
+use Rattle.hr_graph_rows.proofs.edges.are_within.Goals as goal
 
 pub loop-from-preserved : goal.loop-from-preserved
 loop-from-preserved c =
