@@ -10,10 +10,10 @@ use Rattle.hr_fixity.specs.declared.stack.Turn.{Turn}
 use Rattle.hr_fixity.specs.declared.stack.Turn.TheVariants.{Closes, Opens, Clashes}
 use Rattle.hr_fixity.specs.declared.tree.Graded.{Graded}
 use Rattle.hr_fixity.specs.declared.tree.Graded.TheVariants as tree
-use Rattle.hr_fixity.specs.Productions.{Any, LeftOnly, RightOnly, Derives}
+use Rattle.hr_fixity.specs.Productions.{Any, LeftOnly, RightOnly, Grades}
 use Rattle.hr_fixity.specs.Productions as g
 use Rattle.hr_fixity.specs.Reader as reader
-use Rattle.hr_fixity.specs.Reader.{turn_at, turn_of, turn_between, by_turn, close, close_all, left_of, never_opens}
+use Rattle.hr_fixity.specs.Reader.{turn_at, turn_of, turn_between, by_turn, close, close_all, with_left_operand, never_opens}
 use Rattle.hr_fixity.proofs.Sound.{LeftOperand, RightOperand, Node, Fit, Spine, bottom, operator, negation, literal, joins, lower, node_left, node_right, node_any, right_operand, opens_cases}
 
 -- the grade of an open operator
@@ -43,7 +43,7 @@ fit_node [] f n ps t small e node = lower 0 f.level n ps t (omega arith) (omega 
 fit_node (open_.Operator k h l ∷ os) f n ps t small e node = node_right h f n ps t small e node
 fit_node (open_.Minus k ∷ os) f n ps t small e node = by (opens_cases reader.minus f e)
   where
-    by : (6 < f.level) ⊎ ((f.level ≡ 6) × ((Left ≡ Right) × (f.direction ≡ Right))) → Derives (Any 7) n ps t
+    by : (6 < f.level) ⊎ ((f.level ≡ 6) × ((Left ≡ Right) × (f.direction ≡ Right))) → Grades (Any 7) n ps t
     by (inl lt) = lower 7 f.level n ps t (omega arith) (omega arith) (node_any f.direction f.level n ps t node)
     by (inr (same, dirs)) = let bad : Left ≡ Right = dirs.0 in absurd (cc)
 fit_node (open_.PatternMinus k ∷ os) f n ps t small e node = absurd (never_opens-opens (turn_between reader.minus f) e)
@@ -93,7 +93,7 @@ closing (negation os ps p s opens) = λ qs t h. record {
   back = part.Minus p ∷ qs;
   spine = s;
   same = sym (append_assoc ps (part.Minus p ∷ []) qs);
-  node = g.minus (length ps) qs t p (subst (λ n. Derives (Any 7) n qs t) (length-one ps (part.Minus p)) h);
+  node = g.minus (length ps) qs t p (subst (λ n. Grades (Any 7) n qs t) (length-one ps (part.Minus p)) h);
   opens = opens;
   small = omega arith;
 }
@@ -104,9 +104,9 @@ closing (literal os ps p s opens) = λ qs t h. record {
   same = sym (append_assoc ps (part.PatternMinus p ∷ []) qs);
   node =
       let e : tree.Operand (suc (length ps)) ≡ t = ap tree.Operand (sym (length-one ps (part.PatternMinus p))) ∙ sym h.1 in
-      let one : Derives (LeftOnly 6) (length ps) (part.PatternMinus p ∷ part.Operand ∷ []) (tree.Negated (length ps) (tree.Operand (suc (length ps)))) = g.pattern_minus (length ps) p in
-      let two : Derives (LeftOnly 6) (length ps) (part.PatternMinus p ∷ part.Operand ∷ []) (tree.Negated (length ps) t) = subst (λ u. Derives (LeftOnly 6) (length ps) (part.PatternMinus p ∷ part.Operand ∷ []) (tree.Negated (length ps) u)) e one in
-      subst (λ rs. Derives (LeftOnly 6) (length ps) (part.PatternMinus p ∷ rs) (tree.Negated (length ps) t)) (sym h.0) two;
+      let one : Grades (LeftOnly 6) (length ps) (part.PatternMinus p ∷ part.Operand ∷ []) (tree.Negated (length ps) (tree.Operand (suc (length ps)))) = g.pattern_minus (length ps) p in
+      let two : Grades (LeftOnly 6) (length ps) (part.PatternMinus p ∷ part.Operand ∷ []) (tree.Negated (length ps) t) = subst (λ u. Grades (LeftOnly 6) (length ps) (part.PatternMinus p ∷ part.Operand ∷ []) (tree.Negated (length ps) u)) e one in
+      subst (λ rs. Grades (LeftOnly 6) (length ps) (part.PatternMinus p ∷ rs) (tree.Negated (length ps) t)) (sym h.0) two;
   opens = opens;
   small = omega arith;
 }
@@ -129,16 +129,16 @@ left_same ps qs as_ bs f None e h = tt
 left_same ps qs as_ bs f (Some (os, l)) e h = record { front = h.front; back = h.back; spine = h.spine; same = h.same ∙ e; fit = h.fit; opens = h.opens }
 
 pub left_sound : (os : List Open) (ps qs : List Part) (t : Graded) (f : Fixity) → Spine os ps → Fit os (length ps) qs t → LeftOperand f.direction f.level (length ps) qs t
-    → LeftSound ps qs f (left_of os t f)
+    → LeftSound ps qs f (with_left_operand os t f)
 left_sound [] ps qs t f s fit l = record { front = ps; back = qs; spine = s; same = refl; fit = l; opens = refl }
 left_sound (o ∷ os) ps qs t f s fit l =
     let c : Closed o os ps qs t = closing s qs t fit in
-    by (turn_of o f) refl (λ e. left_same ps qs c.front c.back f (left_of os (close o t) f) c.same
+    by (turn_of o f) refl (λ e. left_same ps qs c.front c.back f (with_left_operand os (close o t) f) c.same
     (left_sound os c.front c.back (close o t) f c.spine
     (fit_node os (fixity_of o) (length c.front) c.back (close o t) c.small c.opens c.node)
     (node_left (fixity_of o) f (length c.front) c.back (close o t) c.small (turn_closes o f e) c.node)))
   where
-    by : (u : Turn) → turn_of o f ≡ u → (turn_of o f ≡ Closes → LeftSound ps qs f (left_of os (close o t) f)) → LeftSound ps qs f (by_turn u (left_of os (close o t) f) (Some (o ∷ os, t)) None)
+    by : (u : Turn) → turn_of o f ≡ u → (turn_of o f ≡ Closes → LeftSound ps qs f (with_left_operand os (close o t) f)) → LeftSound ps qs f (by_turn u (with_left_operand os (close o t) f) (Some (o ∷ os, t)) None)
     by Closes e next = next e
     by Opens e next = record { front = ps; back = qs; spine = s; same = refl; fit = l; opens = e }
     by Clashes e next = tt
@@ -149,12 +149,12 @@ empty_spine (operator os ps ls p f l s opens small fit) e = absurd (cc)
 empty_spine (negation os ps p s opens) e = absurd (cc)
 empty_spine (literal os ps p s opens) e = absurd (cc)
 
-pub close_all_sound : (os : List Open) (ps qs : List Part) (t : Graded) → Spine os ps → Fit os (length ps) qs t → Derives (Any 0) 0 (ps ++ qs) (close_all os t)
+pub close_all_sound : (os : List Open) (ps qs : List Part) (t : Graded) → Spine os ps → Fit os (length ps) qs t → Grades (Any 0) 0 (ps ++ qs) (close_all os t)
 close_all_sound [] ps qs t s fit =
     let e : ps ≡ [] = empty_spine s refl in
-    let one : Derives (Any 0) (length {A = Part} []) qs t = subst (λ rs. Derives (Any 0) (length rs) qs t) e fit in
-    subst (λ rs. Derives (Any 0) 0 (rs ++ qs) t) (sym e) one
+    let one : Grades (Any 0) (length {A = Part} []) qs t = subst (λ rs. Grades (Any 0) (length rs) qs t) e fit in
+    subst (λ rs. Grades (Any 0) 0 (rs ++ qs) t) (sym e) one
 close_all_sound (o ∷ os) ps qs t s fit =
     let c : Closed o os ps qs t = closing s qs t fit in
-    subst (λ rs. Derives (Any 0) 0 rs (close_all os (close o t))) c.same
+    subst (λ rs. Grades (Any 0) 0 rs (close_all os (close o t))) c.same
     (close_all_sound os c.front c.back (close o t) c.spine (fit_node os (fixity_of o) (length c.front) c.back (close o t) c.small c.opens c.node))

@@ -11,10 +11,10 @@ use Rattle.hr_fixity.specs.declared.stack.Open.TheVariants as open_
 use Rattle.hr_fixity.specs.declared.stack.Turn.TheVariants.{Closes, Opens}
 use Rattle.hr_fixity.specs.declared.tree.Graded.{Graded}
 use Rattle.hr_fixity.specs.declared.tree.Graded.TheVariants as tree
-use Rattle.hr_fixity.specs.Productions.{Nonterminal, Any, LeftOnly, RightOnly, Derives, operand, higher, left, right, neither, left_left, left_any, minus, pattern_minus, any_right, right_right}
+use Rattle.hr_fixity.specs.Productions.{Nonterminal, Any, LeftOnly, RightOnly, Grades, operand, higher, left, right, neither, left_left, left_any, minus, pattern_minus, any_right, right_right}
 use Rattle.hr_fixity.specs.Resolved.{HasRoot}
 use Rattle.hr_fixity.specs.Reader as reader
-use Rattle.hr_fixity.specs.Reader.{run, step, turn_at, turn_of, turn_between, close, close_all, keeps_root, is_empty}
+use Rattle.hr_fixity.specs.Reader.{run, take_part, turn_at, turn_of, turn_between, close, close_all, keeps_root, nothing_open}
 use Rattle.hr_fixity.proofs.Turns.{Looser, Within, closes_above, opens_below, closes_left, opens_right}
 use Rattle.hr_fixity.proofs.Running.{AllClose, AllClose-append, run-append, close_all-append, step-operator}
 
@@ -27,38 +27,38 @@ pub record Reads (root : Option ℕ) (x : Nonterminal) (n : ℕ) (ps : List Part
 
 -- a root that is demanded stands behind the number m, or before n with something open
 abbrev pub Free : Option ℕ → ℕ → ℕ → List Open → Type 0
-Free root n m os = (r : ℕ) → root ≡ Some r → (m ≤ r) ⊎ ((r < n) × (is_empty os ≡ false))
+Free root n m os = (r : ℕ) → root ≡ Some r → (m ≤ r) ⊎ ((r < n) × (nothing_open os ≡ false))
 
 -- the stack opens for what stands in a tree of the nonterminal
 abbrev pub Takes : List Open → Nonterminal → Type 0
 Takes os x = (f : Fixity) → Within x f → turn_at os f ≡ Opens
 
-pub keeps_free : (root : Option ℕ) (n m k : ℕ) (os : List Open) → Free root n m os → n ≤ k → k < m → keeps_root root k (is_empty os) ≡ true
+pub keeps_free : (root : Option ℕ) (n m k : ℕ) (os : List Open) → Free root n m os → n ≤ k → k < m → keeps_root root k (nothing_open os) ≡ true
 keeps_free None n m k os free low high = refl
 keeps_free (Some r) n m k os free low high = by (free r refl)
   where
-    by : (m ≤ r) ⊎ ((r < n) × (is_empty os ≡ false)) → keeps_root (Some r) k (is_empty os) ≡ true
+    by : (m ≤ r) ⊎ ((r < n) × (nothing_open os ≡ false)) → keeps_root (Some r) k (nothing_open os) ≡ true
     by (inl h) = let before : k < r = omega arith in rw (lt-ltb k r before) refl
     by (inr (h, e)) = let le : r ≤ k = omega arith in let ne : nat_eq k r ≡ false = grind arith in rw (le-ltb k r le, ne, e) refl
 
 free_left : (root : Option ℕ) (n m m' : ℕ) (os : List Open) → m' ≤ m → Free root n m os → Free root n m' os
 free_left root n m m' os le free r e = by (free r e)
   where
-    by : (m ≤ r) ⊎ ((r < n) × (is_empty os ≡ false)) → (m' ≤ r) ⊎ ((r < n) × (is_empty os ≡ false))
+    by : (m ≤ r) ⊎ ((r < n) × (nothing_open os ≡ false)) → (m' ≤ r) ⊎ ((r < n) × (nothing_open os ≡ false))
     by (inl h) = inl (omega arith)
     by (inr h) = inr h
 
 free_right : (root : Option ℕ) (n n' m : ℕ) (o : Open) (os : List Open) → n ≤ n' → Free root n m os → Free root n' m (o ∷ os)
 free_right root n n' m o os le free r e = by (free r e)
   where
-    by : (m ≤ r) ⊎ ((r < n) × (is_empty os ≡ false)) → (m ≤ r) ⊎ ((r < n') × (is_empty (o ∷ os) ≡ false))
+    by : (m ≤ r) ⊎ ((r < n) × (nothing_open os ≡ false)) → (m ≤ r) ⊎ ((r < n') × (nothing_open (o ∷ os) ≡ false))
     by (inl h) = inl h
     by (inr h) = inr (omega arith, refl)
 
 -- an operator between what its operands read
 pub binary : (root : Option ℕ) (x y z : Nonterminal) (n : ℕ) (p : _) (f : Fixity) (ls rs : List Part) (l r : Graded) (os : List Open)
     → Reads root y n ls l os → Reads root z (suc (n + length ls)) rs r (open_.Operator (n + length ls) f l ∷ os)
-    → keeps_root root (n + length ls) (is_empty os) ≡ true → turn_at os f ≡ Opens → Looser y f
+    → keeps_root root (n + length ls) (nothing_open os) ≡ true → turn_at os f ≡ Opens → Looser y f
     → ((g : Fixity) → Looser x g → (turn_between f g ≡ Closes) × Looser z g)
     → Reads root x n (ls ++ (part.Operator p f ∷ rs)) (tree.Binary (n + length ls) l r) os
 binary root x y z n p f ls rs l r os before behind keeps opens looser down = record {
@@ -97,7 +97,7 @@ free_behind root n ls rs q o os free =
     free_left root (suc (n + length ls)) (n + length (ls ++ (q ∷ rs))) (suc (n + length ls) + length rs) (o ∷ os) (omega (arith, length-append ls (q ∷ rs)))
     (free_right root n (suc (n + length ls)) (n + length (ls ++ (q ∷ rs))) o os (omega arith) free)
 
-keeps_between : (root : Option ℕ) (n : ℕ) (ls rs : List Part) (q : Part) (os : List Open) → Free root n (n + length (ls ++ (q ∷ rs))) os → keeps_root root (n + length ls) (is_empty os) ≡ true
+keeps_between : (root : Option ℕ) (n : ℕ) (ls rs : List Part) (q : Part) (os : List Open) → Free root n (n + length (ls ++ (q ∷ rs))) os → keeps_root root (n + length ls) (nothing_open os) ≡ true
 keeps_between root n ls rs q os free =
     keeps_free root n (n + length (ls ++ (q ∷ rs))) (n + length ls) os free (omega arith) (omega (arith, length-append ls (q ∷ rs)))
 
@@ -123,7 +123,7 @@ negation root n p ps t os opens r = record {
   closes = λ g h. AllClose-append r.edge (open_.Minus n) g (r.closes g (next_level 6 g h)) (closes_left reader.minus g refl h);
 }
   where
-    opened : step root n (part.Minus p) os ≡ Some (open_.Minus n ∷ os)
+    opened : take_part root n (part.Minus p) os ≡ Some (open_.Minus n ∷ os)
     opened = rw opens refl
 
     last : n + length (part.Minus p ∷ ps) - 1 ≡ suc n + length ps - 1
@@ -138,13 +138,13 @@ pattern_negation root n p os opens = record {
   closes = λ g h. (ap reader.never_opens (closes_left reader.minus g refl h), tt);
 }
   where
-    opened : step root n (part.PatternMinus p) os ≡ Some (open_.PatternMinus n ∷ os)
+    opened : take_part root n (part.PatternMinus p) os ≡ Some (open_.PatternMinus n ∷ os)
     opened = rw opens refl
 
     last : n + length (part.PatternMinus p ∷ part.Operand ∷ []) - 1 ≡ suc n
     last = omega arith
 
-pub reads : (root : Option ℕ) {x : Nonterminal} {n : ℕ} {ps : List Part} {t : Graded} (os : List Open) → Derives x n ps t → Free root n (n + length ps) os → Takes os x → Reads root x n ps t os
+pub reads : (root : Option ℕ) {x : Nonterminal} {n : ℕ} {ps : List Part} {t : Graded} (os : List Open) → Grades x n ps t → Free root n (n + length ps) os → Takes os x → Reads root x n ps t os
 reads root os (operand n) free takes = record { edge = []; runs = refl; whole = let e : n + length (part.Operand ∷ []) - 1 ≡ n = omega arith in ap tree.Operand e; closes = λ f h. tt }
 reads root os (higher i n ps t small d) free takes =
     looser_than root (Any i) (Any (suc i)) n ps t os (λ f h. omega arith) (reads root os d free (λ f h. takes f (omega arith)))
@@ -187,7 +187,7 @@ reads root os (right_right i n ls rs l r p dl dr) free takes =
     (reads root (open_.Operator (n + length ls) f l ∷ os) dr (free_behind root n ls rs (part.Operator p f) (open_.Operator (n + length ls) f l) os free) (λ g h. opens_right f g refl h))
     (keeps_between root n ls rs (part.Operator p f) os free) (takes f (inr (refl, refl))) (omega arith) (λ g h. (closes_above f g h, h))
 
-free_at : (r n m : ℕ) (os : List Open) → (r < n) → is_empty os ≡ false → Free (Some r) n m os
+free_at : (r n m : ℕ) (os : List Open) → (r < n) → nothing_open os ≡ false → Free (Some r) n m os
 free_at r n m os h e k same = let is : r ≡ k = cc in inr (omega arith, e)
 
 free_until : (r n m : ℕ) → m ≤ r → Free (Some r) n m []
@@ -212,7 +212,7 @@ rooted r x y z n p f ls rs l t here before behind looser down =
     keeps : keeps_root (Some r) (n + length ls) true ≡ true
     keeps = rw (le-ltb (n + length ls) r le, eq-eqb (n + length ls) r here) refl
 
-pub reads_rooted : (r : ℕ) {x : Nonterminal} {n : ℕ} {ps : List Part} {t : Graded} (l u : Graded) → Derives x n ps t → t ≡ tree.Binary r l u → Reads (Some r) x n ps t []
+pub reads_rooted : (r : ℕ) {x : Nonterminal} {n : ℕ} {ps : List Part} {t : Graded} (l u : Graded) → Grades x n ps t → t ≡ tree.Binary r l u → Reads (Some r) x n ps t []
 reads_rooted r l u (operand n) e = absurd (cc)
 reads_rooted r l u (higher i n ps t small d) e =
     looser_than (Some r) (Any i) (Any (suc i)) n ps t [] (λ f h. omega arith) (reads_rooted r l u d e)
@@ -257,7 +257,7 @@ finishes root x ps t r =
     let e : 0 + length ps - 1 ≡ length ps - 1 = omega arith in
     (r.edge, r.runs ∙ ap Some (append-nil r.edge), ap (λ i. close_all r.edge (tree.Operand i)) (sym e) ∙ r.whole)
 
-pub complete : (root : Option ℕ) (ps : List Part) (t : Graded) → Derives (Any 0) 0 ps t → HasRoot root t → Finishes root ps t
+pub complete : (root : Option ℕ) (ps : List Part) (t : Graded) → Grades (Any 0) 0 ps t → HasRoot root t → Finishes root ps t
 complete None ps t d h = finishes None (Any 0) ps t (reads None [] d (λ r e. absurd (cc)) (λ f g. refl))
 complete (Some r) ps t d h = finishes (Some r) (Any 0) ps t (reads_rooted r h.0 h.1 d h.2)
 

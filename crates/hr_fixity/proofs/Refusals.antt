@@ -14,9 +14,9 @@ use Rattle.hr_fixity.specs.declared.sequence.Part.TheVariants as part
 use Rattle.hr_fixity.specs.declared.stack.Open.{Open}
 use Rattle.hr_fixity.specs.declared.tree.Graded.{Graded}
 use Rattle.hr_fixity.specs.declared.tree.Graded.TheVariants as tree
-use Rattle.hr_fixity.specs.Sequence.{take_turns, IsRootOf, IsSequence}
-use Rattle.hr_fixity.specs.Resolved.{IsConflict, IsResolved, Shows, is_operator, root_up_to, up_to}
-use Rattle.hr_fixity.specs.Reader.{run, step, close_all, left_of, keeps_root, is_empty, open_operator}
+use Rattle.hr_fixity.specs.Sequence.{take_turns, IsRootOf, IsInfixSequence}
+use Rattle.hr_fixity.specs.Resolved.{IsConflict, IsResolved, ShowsPair, is_operator, root_up_to, up_to}
+use Rattle.hr_fixity.specs.Reader.{run, take_part, close_all, with_left_operand, keeps_root, nothing_open, open_operator}
 use Rattle.hr_fixity.proofs.Running.{run-append}
 use Rattle.hr_fixity.proofs.Complete.{Finishes, complete}
 use Rattle.hr_fixity.proofs.Rooted.{Cut, cut, sound}
@@ -26,9 +26,9 @@ last_step None f e = refl
 last_step (Some os) f e = e os
 
 -- one part more
-pub run_last : (root : Option ℕ) (ps : List Part) (k : ℕ) (q : Part) (os : List Open) → length ps ≡ k → run root 0 ps [] ≡ Some os → run root 0 (ps ++ (q ∷ [])) [] ≡ step root k q os
+pub run_last : (root : Option ℕ) (ps : List Part) (k : ℕ) (q : Part) (os : List Open) → length ps ≡ k → run root 0 ps [] ≡ Some os → run root 0 (ps ++ (q ∷ [])) [] ≡ take_part root k q os
 run_last root ps k q os long runs =
-    run-append root 0 k ps (q ∷ []) [] (omega arith) ∙ ap (option_and_then (run root k (q ∷ []))) runs ∙ last_step (step root k q os) (run root (suc k) []) (λ o. refl)
+    run-append root 0 k ps (q ∷ []) [] (omega arith) ∙ ap (option_and_then (run root k (q ∷ []))) runs ∙ last_step (take_part root k q os) (run root (suc k) []) (λ o. refl)
 
 -- a root that is cut off changes nothing before the cut
 keeps_up_to : (root : Option ℕ) (k n : ℕ) (b : Bool) → n ≤ k → keeps_root (root_up_to k root) n b ≡ keeps_root root n b
@@ -41,13 +41,13 @@ keeps_up_to (Some r) k n b h = by (nat_le r k) refl
 
 operator_up_to : (root : Option ℕ) (k n : ℕ) (f : Fixity) (r : Option (List Open × Graded)) → n ≤ k → open_operator (root_up_to k root) n f r ≡ open_operator root n f r
 operator_up_to root k n f None h = refl
-operator_up_to root k n f (Some (os, l)) h = rw (keeps_up_to root k n (is_empty os) h) refl
+operator_up_to root k n f (Some (os, l)) h = rw (keeps_up_to root k n (nothing_open os) h) refl
 
-step_up_to : (root : Option ℕ) (k n : ℕ) (q : Part) (os : List Open) → n ≤ k → step (root_up_to k root) n q os ≡ step root n q os
+step_up_to : (root : Option ℕ) (k n : ℕ) (q : Part) (os : List Open) → n ≤ k → take_part (root_up_to k root) n q os ≡ take_part root n q os
 step_up_to root k n part.Operand os h = refl
 step_up_to root k n (part.Minus p) os h = refl
 step_up_to root k n (part.PatternMinus p) os h = refl
-step_up_to root k n (part.Operator p f) os h = operator_up_to root k n f (left_of os (tree.Operand (n - 1)) f) h
+step_up_to root k n (part.Operator p f) os h = operator_up_to root k n f (with_left_operand os (tree.Operand (n - 1)) f) h
 
 same_then : (s : Option (List Open)) (f h : List Open → Option (List Open)) → ((os : List Open) → f os ≡ h os) → option_and_then f s ≡ option_and_then h s
 same_then None f h e = refl
@@ -57,7 +57,7 @@ run_up_to : (root : Option ℕ) (k : ℕ) (ps : List Part) (n : ℕ) (os : List 
 run_up_to root k [] n os h = refl
 run_up_to root k (q ∷ ps) n os h =
     ap (option_and_then (run (root_up_to k root) (suc n) ps)) (step_up_to root k n q os (omega arith))
-    ∙ same_then (step root n q os) (run (root_up_to k root) (suc n) ps) (run root (suc n) ps) (λ os'. run_up_to root k ps (suc n) os' (omega arith))
+    ∙ same_then (take_part root n q os) (run (root_up_to k root) (suc n) ps) (run root (suc n) ps) (λ os'. run_up_to root k ps (suc n) os' (omega arith))
 
 -- parts of which a front can't be taken have no tree
 stuck_front : (root : Option ℕ) (front back : List Part) (t : Graded) → run root 0 front [] ≡ None → Finishes root (front ++ back) t → ⊥
@@ -127,7 +127,7 @@ front_runs root front back os runs = by (run root 0 front []) refl (sym (run-app
     by None e bad = absurd (cc)
     by (Some os') e h = (os', e)
 
-module _ (seq : Infix) (is : IsSequence seq) (k : ℕ) (q : Part) (os : List Open) (here : slice_get seq.parts k ≡ Some q)
+module _ (seq : Infix) (is : IsInfixSequence seq) (k : ℕ) (q : Part) (os : List Open) (here : slice_get seq.parts k ≡ Some q)
     (runs : run seq.root 0 (take k seq.parts) [] ≡ Some os) where
   tree_up_to : (n : ℕ) (p : Part) → n < k → slice_get seq.parts n ≡ Some p → is_operator p ≡ true → (t : Graded) × IsResolved (up_to seq n) t
   tree_up_to n p lt e o =
@@ -142,7 +142,7 @@ module _ (seq : Infix) (is : IsSequence seq) (k : ℕ) (q : Part) (os : List Ope
         sound (up_to seq n) f.0 (turns_up_to seq.parts await.Term n p e o is.turns) (root_of_up_to seq.root seq.parts n is.root) whole,
       )
 
-  pub stuck : step seq.root k q os ≡ None → run seq.root 0 (take (suc k) seq.parts) [] ≡ None
+  pub stuck : take_part seq.root k q os ≡ None → run seq.root 0 (take (suc k) seq.parts) [] ≡ None
   stuck e =
       let c : Cut seq.parts k q = cut seq.parts k q here in
       ap (λ ps. run seq.root 0 ps []) c.more ∙ run_last seq.root (take k seq.parts) k q os c.long runs ∙ e
@@ -153,7 +153,7 @@ module _ (seq : Infix) (is : IsSequence seq) (k : ℕ) (q : Part) (os : List Ope
       let long : length (take k seq.parts) ≡ k = c.long in
       omega (arith, ap length c.more, length-append (take k seq.parts) (q ∷ []))
 
-  pub refused : (error : FixityError) → step seq.root k q os ≡ None → Shows (take k seq.parts) q error → IsConflict seq error
+  pub refused : (error : FixityError) → take_part seq.root k q os ≡ None → ShowsPair (take k seq.parts) q error → IsConflict seq error
   refused error e shows = record {
     number = k;
     operator = q;
@@ -168,7 +168,7 @@ module _ (seq : Infix) (is : IsSequence seq) (k : ℕ) (q : Part) (os : List Ope
   }
 
 pub run_more : (root : Option ℕ) (ps : List Part) (k : ℕ) (q : Part) (os rest : List Open) (b : Bool) → slice_get ps k ≡ Some q → run root 0 (take k ps) [] ≡ Some os
-    → step root k q os ≡ cond b (Some rest) None → b ≡ true → run root 0 (take (k + 1) ps) [] ≡ Some rest
+    → take_part root k q os ≡ cond b (Some rest) None → b ≡ true → run root 0 (take (k + 1) ps) [] ≡ Some rest
 run_more root ps k q os rest b here runs taken is_true =
     let c : Cut ps k q = cut ps k q here in
     let e : k + 1 ≡ suc k = omega arith in

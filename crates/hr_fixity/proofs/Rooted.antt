@@ -18,7 +18,7 @@ use Rattle.hr_fixity.specs.declared.tree.Graded.TheVariants as tree
 use Rattle.hr_fixity.specs.Sequence.{take_turns, IsRootOf}
 use Rattle.hr_fixity.specs.Resolved.{HasRoot, IsResolved}
 use Rattle.hr_fixity.specs.Reader as reader
-use Rattle.hr_fixity.specs.Reader.{run, step, turn_at, turn_of, by_turn, close, close_all, left_of, keeps_root, is_empty, open_operator, open_minus}
+use Rattle.hr_fixity.specs.Reader.{run, take_part, turn_at, turn_of, by_turn, close, close_all, with_left_operand, keeps_root, nothing_open, open_operator, open_minus}
 use Rattle.hr_fixity.proofs.Running.{run-append}
 use Rattle.hr_fixity.proofs.Whole.{graded}
 
@@ -38,18 +38,18 @@ close_all_root r (o ∷ p ∷ os) t h = close_all_root r (p ∷ os) (close o t) 
 
 abbrev pub Kept : ℕ → Option (List Open × Graded) → Type 0
 Kept r None = Unit {0}
-Kept r (Some (os, l)) = is_empty os ≡ false → Outermost r os
+Kept r (Some (os, l)) = nothing_open os ≡ false → Outermost r os
 
-left_keeps : (r : ℕ) (os : List Open) (t : Graded) (f : Fixity) → (is_empty os ≡ false → Outermost r os) → Kept r (left_of os t f)
+left_keeps : (r : ℕ) (os : List Open) (t : Graded) (f : Fixity) → (nothing_open os ≡ false → Outermost r os) → Kept r (with_left_operand os t f)
 left_keeps r [] t f h = h
 left_keeps r (o ∷ os) t f h = by (turn_of o f)
     (left_keeps r os (close o t) f (below os (h refl)))
   where
-    below : (ps : List Open) → Outermost r (o ∷ ps) → is_empty ps ≡ false → Outermost r ps
+    below : (ps : List Open) → Outermost r (o ∷ ps) → nothing_open ps ≡ false → Outermost r ps
     below [] out e = absurd (cc)
     below (p ∷ ps) out e = out
 
-    by : (u : Turn) → Kept r (left_of os (close o t) f) → Kept r (by_turn u (left_of os (close o t) f) (Some (o ∷ os, t)) None)
+    by : (u : Turn) → Kept r (with_left_operand os (close o t) f) → Kept r (by_turn u (with_left_operand os (close o t) f) (Some (o ∷ os, t)) None)
     by Closes k = k
     by Opens k = h
     by Clashes k = tt
@@ -65,7 +65,7 @@ Holds r (Some os) = Outermost r os
 
 pub run_keeps : (r : ℕ) (ps : List Part) (n : ℕ) (os : List Open) → r < n → Outermost r os → Holds r (run (Some r) n ps os)
 run_keeps r [] n os h out = out
-run_keeps r (q ∷ ps) n os h out = then_ (step (Some r) n q os) (one q) (λ os' out'. run_keeps r ps (suc n) os' (omega arith) out')
+run_keeps r (q ∷ ps) n os h out = then_ (take_part (Some r) n q os) (one q) (λ os' out'. run_keeps r ps (suc n) os' (omega arith) out')
   where
     then_ : (s : Option (List Open)) → Holds r s → ((os' : List Open) → Outermost r os' → Holds r (run (Some r) (suc n) ps os')) → Holds r (option_and_then (run (Some r) (suc n) ps) s)
     then_ None k next = tt
@@ -78,17 +78,17 @@ run_keeps r (q ∷ ps) n os h out = then_ (step (Some r) n q os) (one q) (λ os'
 
     infix_ : (f : Fixity) (s : Option (List Open × Graded)) → Kept r s → Holds r (open_operator (Some r) n f s)
     infix_ f None k = tt
-    infix_ f (Some (os', l)) k = subst (λ b. Holds r (cond b (Some (open_.Operator n f l ∷ os')) None)) (sym (keeps_later r n (is_empty os') h)) (by (is_empty os') refl)
+    infix_ f (Some (os', l)) k = subst (λ b. Holds r (cond b (Some (open_.Operator n f l ∷ os')) None)) (sym (keeps_later r n (nothing_open os') h)) (by (nothing_open os') refl)
       where
-        by : (b : Bool) → is_empty os' ≡ b → Holds r (cond (not b) (Some (open_.Operator n f l ∷ os')) None)
+        by : (b : Bool) → nothing_open os' ≡ b → Holds r (cond (not b) (Some (open_.Operator n f l ∷ os')) None)
         by true e = tt
         by false e = outermost_under r (open_.Operator n f l) os' (k e)
 
-    one : (q : Part) → Holds r (step (Some r) n q os)
+    one : (q : Part) → Holds r (take_part (Some r) n q os)
     one part.Operand = out
     one (part.Minus p) = minus_ (open_.Minus n) (turn_at os reader.minus)
     one (part.PatternMinus p) = minus_ (open_.PatternMinus n) (turn_at os reader.minus)
-    one (part.Operator p f) = infix_ f (left_of os (tree.Operand (n - 1)) f) (left_keeps r os (tree.Operand (n - 1)) f (λ e. out))
+    one (part.Operator p f) = infix_ f (with_left_operand os (tree.Operand (n - 1)) f) (left_keeps r os (tree.Operand (n - 1)) f (λ e. out))
 
 -- the parts up to a number and from it on
 pub record Cut (ps : List Part) (k : ℕ) (q : Part) : Type 0 where
@@ -104,8 +104,8 @@ cut (p ∷ ps) (suc k) q e =
     record { whole = ap (λ r. p ∷ r) c.whole; long = let l : length (take k ps) ≡ k = c.long in omega arith; more = ap (λ r. p ∷ r) c.more }
 
 -- where the demanded operator is taken, nothing is open round it
-at_root : (r : ℕ) (p : Place) (f : Fixity) (os : List Open) → Holds r (step (Some r) r (part.Operator p f) os)
-at_root r p f os = infix_ (left_of os (tree.Operand (r - 1)) f)
+at_root : (r : ℕ) (p : Place) (f : Fixity) (os : List Open) → Holds r (take_part (Some r) r (part.Operator p f) os)
+at_root r p f os = infix_ (with_left_operand os (tree.Operand (r - 1)) f)
   where
     keeps : (b : Bool) → keeps_root (Some r) r b ≡ b
     keeps b = let le : r ≤ r = omega arith in rw (le-ltb r r le, eq-eqb r r refl) refl
@@ -125,7 +125,7 @@ rooted_by r p f ps qs os e runs =
 
     first : (s : Option (List Open)) → Holds r (option_and_then (run (Some r) r (part.Operator p f ∷ qs)) s)
     first None = tt
-    first (Some os') = second (step (Some r) r (part.Operator p f) os') (at_root r p f os')
+    first (Some os') = second (take_part (Some r) r (part.Operator p f) os') (at_root r p f os')
 
 rooted : (root : Option ℕ) (ps : List Part) (os : List Open) (t : Graded) → IsRootOf ps root → run root 0 ps [] ≡ Some os → HasRoot root (close_all os t)
 rooted None ps os t h runs = tt

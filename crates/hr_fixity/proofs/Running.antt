@@ -9,7 +9,7 @@ use Rattle.hr_fixity.specs.declared.stack.Open.TheVariants.{Operator}
 use Rattle.hr_fixity.specs.declared.stack.Turn.TheVariants.{Closes, Opens}
 use Rattle.hr_fixity.specs.declared.tree.Graded.{Graded}
 use Rattle.hr_fixity.specs.declared.tree.Graded.TheVariants as tree
-use Rattle.hr_fixity.specs.Reader.{run, step, turn_at, turn_of, close, close_all, left_of, open_operator, keeps_root, is_empty}
+use Rattle.hr_fixity.specs.Reader.{run, take_part, turn_at, turn_of, close, close_all, with_left_operand, open_operator, keeps_root, nothing_open}
 
 abbrev pub AllClose : List Open → Fixity → Type 0
 AllClose [] f = Unit {0}
@@ -25,13 +25,13 @@ pub run-append : (root : Option ℕ) (n m : ℕ) (ps qs : List Part) (os : List 
 run-append root n m [] qs os e = let here : n ≡ m = omega arith in ap (λ k. run root k qs os) here
 run-append root n m (p ∷ ps) qs os e =
     let e' : m ≡ suc n + length ps = omega arith in
-    run_on (run root (suc n) (ps ++ qs)) (run root (suc n) ps) (run root m qs) (λ os'. run-append root (suc n) m ps qs os' e') (step root n p os)
+    run_on (run root (suc n) (ps ++ qs)) (run root (suc n) ps) (run root m qs) (λ os'. run-append root (suc n) m ps qs os' e') (take_part root n p os)
 
-pub left_of-closes : (edge os : List Open) (t : Graded) (f : Fixity) → AllClose edge f → left_of (edge ++ os) t f ≡ left_of os (close_all edge t) f
+pub left_of-closes : (edge os : List Open) (t : Graded) (f : Fixity) → AllClose edge f → with_left_operand (edge ++ os) t f ≡ with_left_operand os (close_all edge t) f
 left_of-closes [] os t f all = refl
 left_of-closes (o ∷ edge) os t f all = rw (all.0) (left_of-closes edge os (close o t) f all.1)
 
-pub left_of-opens : (os : List Open) (t : Graded) (f : Fixity) → turn_at os f ≡ Opens → left_of os t f ≡ Some (os, t)
+pub left_of-opens : (os : List Open) (t : Graded) (f : Fixity) → turn_at os f ≡ Opens → with_left_operand os t f ≡ Some (os, t)
 left_of-opens [] t f h = refl
 left_of-opens (o ∷ os) t f h = rw h refl
 
@@ -45,7 +45,7 @@ AllClose-append (p ∷ edge) o f all h = (all.0, AllClose-append edge o f all.1 
 
 -- an operator behind its whole left operand
 pub step-operator : (root : Option ℕ) (n : ℕ) (p : _) (f : Fixity) (edge os : List Open) (l : Graded) → AllClose edge f → close_all edge (tree.Operand (n - 1)) ≡ l
-    → turn_at os f ≡ Opens → keeps_root root n (is_empty os) ≡ true → step root n (part.Operator p f) (edge ++ os) ≡ Some (Operator n f l ∷ os)
+    → turn_at os f ≡ Opens → keeps_root root n (nothing_open os) ≡ true → take_part root n (part.Operator p f) (edge ++ os) ≡ Some (Operator n f l ∷ os)
 step-operator root n p f edge os l all whole opens keeps =
-    ap (open_operator root n f) (left_of-closes edge os (tree.Operand (n - 1)) f all ∙ ap (λ t. left_of os t f) whole ∙ left_of-opens os l f opens)
+    ap (open_operator root n f) (left_of-closes edge os (tree.Operand (n - 1)) f all ∙ ap (λ t. with_left_operand os t f) whole ∙ left_of-opens os l f opens)
     ∙ rw keeps refl

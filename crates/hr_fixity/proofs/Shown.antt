@@ -10,7 +10,7 @@ use Rattle.hr_fixity.specs.declared.sequence.Part.TheVariants as part
 use Rattle.hr_fixity.specs.declared.stack.Open.{Open}
 use Rattle.hr_fixity.specs.Sequence.{IsRootOf}
 use Rattle.hr_fixity.specs.Resolved.{is_operator, is_within, place_of, place_at, beside}
-use Rattle.hr_fixity.specs.Reader.{run, step}
+use Rattle.hr_fixity.specs.Reader.{run, take_part}
 
 is_found : {X : Type 0} (p : X → Bool) (xs : List X) (k : ℕ) (x : X) → slice_get xs k ≡ Some x → p x ≡ true → is_some (find p (reverse xs)) ≡ true
 is_found p [] k x e h = absurd (cc)
@@ -47,7 +47,7 @@ operands : (root : Option ℕ) (ps : List Part) (n : ℕ) (os : List Open) → (
 operands root [] n os none = refl
 operands root (q ∷ ps) n os none = by q (none 0 q refl) (operands root ps (suc n) os (λ k r e. none (suc k) r e))
   where
-    by : (q : Part) → is_operator q ≡ false → run root (suc n) ps os ≡ Some os → option_and_then (run root (suc n) ps) (step root n q os) ≡ Some os
+    by : (q : Part) → is_operator q ≡ false → run root (suc n) ps os ≡ Some os → option_and_then (run root (suc n) ps) (take_part root n q os) ≡ Some os
     by part.Operand h next = next
     by (part.Operator p f) h next = absurd (cc)
     by (part.Minus p) h next = absurd (cc)
@@ -60,7 +60,7 @@ slice_get_take (p ∷ ps) (suc k) zero q h e = e
 slice_get_take (p ∷ ps) (suc k) (suc r) q h e = slice_get_take ps k r q (omega arith) e
 
 -- with nothing open an operator can't be taken only where the root stands before it
-alone : (root : Option ℕ) (k : ℕ) (q : Part) → step root k q [] ≡ None → (r : ℕ) × (root ≡ Some r) × (r < k)
+alone : (root : Option ℕ) (k : ℕ) (q : Part) → take_part root k q [] ≡ None → (r : ℕ) × (root ≡ Some r) × (r < k)
 alone root k part.Operand e = absurd (cc)
 alone root k (part.Minus p) e = absurd (cc)
 alone root k (part.PatternMinus p) e = absurd (cc)
@@ -101,13 +101,13 @@ some_beside before (part.Operator p f) h = by (find (is_within f.level) (reverse
     by None e = some_last (reverse before) h
     by (Some y) e = place_there y (within_operator f.level y (find_holds (is_within f.level) (reverse before) y e))
 
-pub right_there : (root : Option ℕ) (k : ℕ) (q : Part) (os : List Open) → step root k q os ≡ None → IsSome (place_of q)
+pub right_there : (root : Option ℕ) (k : ℕ) (q : Part) (os : List Open) → take_part root k q os ≡ None → IsSome (place_of q)
 right_there root k part.Operand os e = absurd (cc)
 right_there root k (part.Operator p f) os e = refl
 right_there root k (part.Minus p) os e = refl
 right_there root k (part.PatternMinus p) os e = refl
 
-pub left_there : (root : Option ℕ) (ps : List Part) (k : ℕ) (q : Part) (os : List Open) → IsRootOf ps root → run root 0 (take k ps) [] ≡ Some os → step root k q os ≡ None
+pub left_there : (root : Option ℕ) (ps : List Part) (k : ℕ) (q : Part) (os : List Open) → IsRootOf ps root → run root 0 (take k ps) [] ≡ Some os → take_part root k q os ≡ None
     → IsSome (place_at (beside (take k ps) q))
 left_there root ps k q os is_root runs stuck = some_beside (take k ps) q (by (find is_operator (reverse (take k ps))) refl)
   where
@@ -130,5 +130,5 @@ left_there root ps k q os is_root runs stuck = some_beside (take k ps) q (by (fi
     by None e =
         let ran : run root 0 (take k ps) [] ≡ Some [] = operands root (take k ps) 0 [] (none e) in
         let empty : os ≡ [] = let s : Some os ≡ Some [] = sym runs ∙ ran in cc in
-        let a : (r : ℕ) × (root ≡ Some r) × (r < k) = alone root k q (subst (λ o. step root k q o ≡ None) empty stuck) in
+        let a : (r : ℕ) × (root ≡ Some r) × (r < k) = alone root k q (subst (λ o. take_part root k q o ≡ None) empty stuck) in
         absurd (let bad : true ≡ false = rooted root is_root a.0 a.1 a.2 e in cc)

@@ -12,26 +12,26 @@ use Rattle.hr_fixity.specs.declared.stack.Open.TheVariants as open_
 use Rattle.hr_fixity.specs.declared.stack.Turn.TheVariants.{Closes, Opens}
 use Rattle.hr_fixity.specs.declared.tree.Graded.{Graded}
 use Rattle.hr_fixity.specs.declared.tree.Graded.TheVariants as tree
-use Rattle.hr_fixity.specs.Productions.{Any, LeftOnly, RightOnly, Derives}
+use Rattle.hr_fixity.specs.Productions.{Any, LeftOnly, RightOnly, Grades}
 use Rattle.hr_fixity.specs.Productions as g
 use Rattle.hr_fixity.specs.Reader as reader
-use Rattle.hr_fixity.specs.Reader.{run, step, turn_at, turn_of, turn_between, turn_at_one_level, by_turn, close, close_all, left_of, keeps_root, is_empty, open_operator, open_minus, never_opens}
+use Rattle.hr_fixity.specs.Reader.{run, take_part, turn_at, turn_of, turn_between, turn_at_one_level, by_turn, close, close_all, with_left_operand, keeps_root, nothing_open, open_operator, open_minus, never_opens}
 
 -- what may be an operand of an operator with this direction and level, and the tree that the operator makes
 abbrev pub LeftOperand : Direction → ℕ → ℕ → List Part → Graded → Type 0
-LeftOperand Left i n ps t = Derives (LeftOnly i) n ps t ⊎ Derives (Any (suc i)) n ps t
-LeftOperand Right i n ps t = Derives (Any (suc i)) n ps t
-LeftOperand Neither i n ps t = Derives (Any (suc i)) n ps t
+LeftOperand Left i n ps t = Grades (LeftOnly i) n ps t ⊎ Grades (Any (suc i)) n ps t
+LeftOperand Right i n ps t = Grades (Any (suc i)) n ps t
+LeftOperand Neither i n ps t = Grades (Any (suc i)) n ps t
 
 abbrev pub RightOperand : Direction → ℕ → ℕ → List Part → Graded → Type 0
-RightOperand Left i n ps t = Derives (Any (suc i)) n ps t
-RightOperand Right i n ps t = Derives (RightOnly i) n ps t ⊎ Derives (Any (suc i)) n ps t
-RightOperand Neither i n ps t = Derives (Any (suc i)) n ps t
+RightOperand Left i n ps t = Grades (Any (suc i)) n ps t
+RightOperand Right i n ps t = Grades (RightOnly i) n ps t ⊎ Grades (Any (suc i)) n ps t
+RightOperand Neither i n ps t = Grades (Any (suc i)) n ps t
 
 abbrev pub Node : Direction → ℕ → ℕ → List Part → Graded → Type 0
-Node Left i n ps t = Derives (LeftOnly i) n ps t
-Node Right i n ps t = Derives (RightOnly i) n ps t
-Node Neither i n ps t = Derives (Any i) n ps t
+Node Left i n ps t = Grades (LeftOnly i) n ps t
+Node Right i n ps t = Grades (RightOnly i) n ps t
+Node Neither i n ps t = Grades (Any i) n ps t
 
 pub joins : (d : Direction) (i n : ℕ) (p : Place) (ls rs : List Part) (l r : Graded) → LeftOperand d i n ls l → RightOperand d i (suc (n + length ls)) rs r
     → Node d i n (ls ++ (part.Operator p (record { level = i; direction = d }) ∷ rs)) (tree.Binary (n + length ls) l r)
@@ -41,27 +41,27 @@ joins Right i n p ls rs l r a (inl b) = g.right_right i n ls rs l r p a b
 joins Right i n p ls rs l r a (inr b) = g.any_right i n ls rs l r p a b
 joins Neither i n p ls rs l r a b = g.neither i n ls rs l r p a b
 
-lower_by : (k i j n : ℕ) (ps : List Part) (t : Graded) → j ≡ i + k → j ≤ 10 → Derives (Any j) n ps t → Derives (Any i) n ps t
-lower_by zero i j n ps t e small d = let same : j ≡ i = omega arith in subst (λ m. Derives (Any m) n ps t) same d
+lower_by : (k i j n : ℕ) (ps : List Part) (t : Graded) → j ≡ i + k → j ≤ 10 → Grades (Any j) n ps t → Grades (Any i) n ps t
+lower_by zero i j n ps t e small d = let same : j ≡ i = omega arith in subst (λ m. Grades (Any m) n ps t) same d
 lower_by (suc k) i j n ps t e small d =
     let e' : j ≡ suc i + k = omega arith in
     let low : i < 10 = omega arith in
     g.higher i n ps t low (lower_by k (suc i) j n ps t e' small d)
 
-pub lower : (i j n : ℕ) (ps : List Part) (t : Graded) → i ≤ j → j ≤ 10 → Derives (Any j) n ps t → Derives (Any i) n ps t
+pub lower : (i j n : ℕ) (ps : List Part) (t : Graded) → i ≤ j → j ≤ 10 → Grades (Any j) n ps t → Grades (Any i) n ps t
 lower i j n ps t le small d = let e : j ≡ i + (j - i) = omega arith in lower_by (j - i) i j n ps t e small d
 
-pub node_any : (d : Direction) (i n : ℕ) (ps : List Part) (t : Graded) → Node d i n ps t → Derives (Any i) n ps t
+pub node_any : (d : Direction) (i n : ℕ) (ps : List Part) (t : Graded) → Node d i n ps t → Grades (Any i) n ps t
 node_any Left i n ps t h = g.left i n ps t h
 node_any Right i n ps t h = g.right i n ps t h
 node_any Neither i n ps t h = h
 
-pub left_operand : (d : Direction) (i n : ℕ) (ps : List Part) (t : Graded) → Derives (Any (suc i)) n ps t → LeftOperand d i n ps t
+pub left_operand : (d : Direction) (i n : ℕ) (ps : List Part) (t : Graded) → Grades (Any (suc i)) n ps t → LeftOperand d i n ps t
 left_operand Left i n ps t h = inr h
 left_operand Right i n ps t h = h
 left_operand Neither i n ps t h = h
 
-pub right_operand : (d : Direction) (i n : ℕ) (ps : List Part) (t : Graded) → Derives (Any (suc i)) n ps t → RightOperand d i n ps t
+pub right_operand : (d : Direction) (i n : ℕ) (ps : List Part) (t : Graded) → Grades (Any (suc i)) n ps t → RightOperand d i n ps t
 right_operand Left i n ps t h = h
 right_operand Right i n ps t h = inr h
 right_operand Neither i n ps t h = h
@@ -132,9 +132,9 @@ node_right f h n ps t small e node = by (opens_cases f h e)
 
 -- what may be the right operand of the innermost open operator
 abbrev pub Fit : List Open → ℕ → List Part → Graded → Type 0
-Fit [] n ps t = Derives (Any 0) n ps t
+Fit [] n ps t = Grades (Any 0) n ps t
 Fit (open_.Operator k f l ∷ os) n ps t = RightOperand f.direction f.level n ps t
-Fit (open_.Minus k ∷ os) n ps t = Derives (Any 7) n ps t
+Fit (open_.Minus k ∷ os) n ps t = Grades (Any 7) n ps t
 Fit (open_.PatternMinus k ∷ os) n ps t = (ps ≡ part.Operand ∷ []) × (t ≡ tree.Operand n)
 
 -- the stack is the open right edge of a tree over the parts

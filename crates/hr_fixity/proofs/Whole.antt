@@ -14,11 +14,11 @@ use Rattle.hr_fixity.specs.declared.stack.Turn.{Turn}
 use Rattle.hr_fixity.specs.declared.stack.Turn.TheVariants.{Closes, Opens, Clashes}
 use Rattle.hr_fixity.specs.declared.tree.Graded.{Graded}
 use Rattle.hr_fixity.specs.declared.tree.Graded.TheVariants as tree
-use Rattle.hr_fixity.specs.Productions.{Any, Derives}
+use Rattle.hr_fixity.specs.Productions.{Any, Grades}
 use Rattle.hr_fixity.specs.Productions as g
 use Rattle.hr_fixity.specs.Sequence.{take_turns}
 use Rattle.hr_fixity.specs.Reader as reader
-use Rattle.hr_fixity.specs.Reader.{run, step, turn_at, turn_of, by_turn, close, close_all, left_of, keeps_root, is_empty, open_operator, open_minus}
+use Rattle.hr_fixity.specs.Reader.{run, take_part, turn_at, turn_of, by_turn, close, close_all, with_left_operand, keeps_root, nothing_open, open_operator, open_minus}
 use Rattle.hr_fixity.proofs.Sound.{Spine, bottom, operator, negation, literal, lower, left_operand}
 use Rattle.hr_fixity.proofs.Closing.{LeftSound, left_sound, close_all_sound, fit_operand}
 
@@ -48,7 +48,7 @@ opened : (root : Option ℕ) (n : ℕ) (p : Place) (f : Fixity) (ps done : List 
     → LeftSound ps (part.Operand ∷ []) f r → (then_ : List Open → Option (List Open)) (rest : List Part)
     → ((os : List Open) → Spine os (done ++ (part.Operator p f ∷ [])) → Ends rest (then_ os)) → Ends rest (option_and_then then_ (open_operator root n f r))
 opened root n p f ps done None count same small h then_ rest next = tt
-opened root n p f ps done (Some (os, l)) count same small h then_ rest next = by (keeps_root root n (is_empty os))
+opened root n p f ps done (Some (os, l)) count same small h then_ rest next = by (keeps_root root n (nothing_open os))
   where
     number : length h.front + length h.back ≡ n
     number = sym (length-append h.front h.back) ∙ ap length (h.same ∙ same) ∙ sym count
@@ -100,11 +100,11 @@ run_sound root (part.Operator p f ∷ ps) await.Operator n done os count turns h
     let t : (nat_le f.level 9 ≡ true) × (take_turns await.Term ps ≡ true) = both (nat_le f.level 9) (take_turns await.Term ps) turns in
     let small : f.level ≤ 9 = leb-true f.level 9 t.0 in
     let here : tree.Operand (n - 1) ≡ tree.Operand (length h.0) = ap tree.Operand (last n done h.0 count h.1) in
-    let read : LeftSound h.0 (part.Operand ∷ []) f (left_of os (tree.Operand (n - 1)) f) =
-    subst (λ u. LeftSound h.0 (part.Operand ∷ []) f (left_of os u f)) (sym here)
+    let read : LeftSound h.0 (part.Operand ∷ []) f (with_left_operand os (tree.Operand (n - 1)) f) =
+    subst (λ u. LeftSound h.0 (part.Operand ∷ []) f (with_left_operand os u f)) (sym here)
     (left_sound os h.0 (part.Operand ∷ []) (tree.Operand (length h.0)) f h.2 (fit_operand (length h.0) h.2)
     (left_operand f.direction f.level (length h.0) (part.Operand ∷ []) (tree.Operand (length h.0)) (lower (suc f.level) 10 (length h.0) (part.Operand ∷ []) (tree.Operand (length h.0)) (omega arith) (omega arith) (g.operand (length h.0))))) in
-    opened root n p f h.0 done (left_of os (tree.Operand (n - 1)) f) count h.1 small read (run root (suc n) ps) (done ++ (part.Operator p f ∷ ps)) (λ os' s.
+    opened root n p f h.0 done (with_left_operand os (tree.Operand (n - 1)) f) count h.1 small read (run root (suc n) ps) (done ++ (part.Operator p f ∷ ps)) (λ os' s.
     ends_same _ _ (run root (suc n) ps os') (one_more done ps (part.Operator p f))
     (run_sound root ps await.Term (suc n) (done ++ (part.Operator p f ∷ [])) os' (omega (arith, length-append done (part.Operator p f ∷ []))) t.1 s))
   where
@@ -118,12 +118,12 @@ run_sound root (part.PatternMinus p ∷ ps) await.Negated n done os count turns 
 run_sound root (part.PatternMinus p ∷ ps) await.Operator n done os count turns h = absurd (cc)
 run_sound root (part.Operand ∷ ps) await.Operator n done os count turns h = absurd (cc)
 
-pub graded : (root : Option ℕ) (ps : List Part) (os : List Open) → take_turns await.Term ps ≡ true → run root 0 ps [] ≡ Some os → Derives (Any 0) 0 ps (close_all os (tree.Operand (length ps - 1)))
+pub graded : (root : Option ℕ) (ps : List Part) (os : List Open) → take_turns await.Term ps ≡ true → run root 0 ps [] ≡ Some os → Grades (Any 0) 0 ps (close_all os (tree.Operand (length ps - 1)))
 graded root ps os turns runs =
     let at : At await.Operator ps os = subst (λ r. Ends ps r) runs (run_sound root ps await.Term 0 [] [] refl turns bottom) in
     let e : tree.Operand (length at.0) ≡ tree.Operand (length ps - 1) = ap tree.Operand (last at.0 at.1) in
-    subst (λ u. Derives (Any 0) 0 ps (close_all os u)) e
-    (subst (λ qs. Derives (Any 0) 0 qs (close_all os (tree.Operand (length at.0)))) at.1
+    subst (λ u. Grades (Any 0) 0 ps (close_all os u)) e
+    (subst (λ qs. Grades (Any 0) 0 qs (close_all os (tree.Operand (length at.0)))) at.1
     (close_all_sound os at.0 (part.Operand ∷ []) (tree.Operand (length at.0)) at.2 (fit_operand (length at.0) at.2)))
   where
     last : (qs : List Part) → qs ++ (part.Operand ∷ []) ≡ ps → length qs ≡ length ps - 1

@@ -14,30 +14,30 @@ pub data Nonterminal : Type 0 where
   LeftOnly : ℕ → Nonterminal
   RightOnly : ℕ → Nonterminal
 
--- Derives x n ps t: the nonterminal x derives the parts ps, numbered from n, with the tree t
-pub data Derives : Nonterminal → ℕ → List Part → Graded → Type 0 where
+-- Grades x n ps t: the nonterminal x derives the parts ps, numbered from n, with the tree t
+pub data Grades : Nonterminal → ℕ → List Part → Graded → Type 0 where
   -- exp^10, of which a sequence shows only that it is an operand
-  operand : (n : ℕ) → Derives (Any 10) n (part.Operand ∷ []) (tree.Operand n)
+  operand : (n : ℕ) → Grades (Any 10) n (part.Operand ∷ []) (tree.Operand n)
   -- exp^i → exp^(i+1)
-  higher : (i n : ℕ) (ps : List Part) (t : Graded) → i < 10 → Derives (Any (suc i)) n ps t → Derives (Any i) n ps t
+  higher : (i n : ℕ) (ps : List Part) (t : Graded) → i < 10 → Grades (Any (suc i)) n ps t → Grades (Any i) n ps t
   -- exp^i → lexp^i | rexp^i
-  left : (i n : ℕ) (ps : List Part) (t : Graded) → Derives (LeftOnly i) n ps t → Derives (Any i) n ps t
-  right : (i n : ℕ) (ps : List Part) (t : Graded) → Derives (RightOnly i) n ps t → Derives (Any i) n ps t
+  left : (i n : ℕ) (ps : List Part) (t : Graded) → Grades (LeftOnly i) n ps t → Grades (Any i) n ps t
+  right : (i n : ℕ) (ps : List Part) (t : Graded) → Grades (RightOnly i) n ps t → Grades (Any i) n ps t
   -- exp^i → exp^(i+1) qop^(n,i) exp^(i+1)
-  neither : (i n : ℕ) (ls rs : List Part) (l r : Graded) (p : Place) → Derives (Any (suc i)) n ls l → Derives (Any (suc i)) (suc (n + length ls)) rs r
-      → Derives (Any i) n (ls ++ part.Operator p (record { level = i; direction = Neither }) ∷ rs) (tree.Binary (n + length ls) l r)
+  neither : (i n : ℕ) (ls rs : List Part) (l r : Graded) (p : Place) → Grades (Any (suc i)) n ls l → Grades (Any (suc i)) (suc (n + length ls)) rs r
+      → Grades (Any i) n (ls ++ part.Operator p (record { level = i; direction = Neither }) ∷ rs) (tree.Binary (n + length ls) l r)
   -- lexp^i → (lexp^i | exp^(i+1)) qop^(l,i) exp^(i+1)
-  left_left : (i n : ℕ) (ls rs : List Part) (l r : Graded) (p : Place) → Derives (LeftOnly i) n ls l → Derives (Any (suc i)) (suc (n + length ls)) rs r
-      → Derives (LeftOnly i) n (ls ++ part.Operator p (record { level = i; direction = Left }) ∷ rs) (tree.Binary (n + length ls) l r)
-  left_any : (i n : ℕ) (ls rs : List Part) (l r : Graded) (p : Place) → Derives (Any (suc i)) n ls l → Derives (Any (suc i)) (suc (n + length ls)) rs r
-      → Derives (LeftOnly i) n (ls ++ part.Operator p (record { level = i; direction = Left }) ∷ rs) (tree.Binary (n + length ls) l r)
+  left_left : (i n : ℕ) (ls rs : List Part) (l r : Graded) (p : Place) → Grades (LeftOnly i) n ls l → Grades (Any (suc i)) (suc (n + length ls)) rs r
+      → Grades (LeftOnly i) n (ls ++ part.Operator p (record { level = i; direction = Left }) ∷ rs) (tree.Binary (n + length ls) l r)
+  left_any : (i n : ℕ) (ls rs : List Part) (l r : Graded) (p : Place) → Grades (Any (suc i)) n ls l → Grades (Any (suc i)) (suc (n + length ls)) rs r
+      → Grades (LeftOnly i) n (ls ++ part.Operator p (record { level = i; direction = Left }) ∷ rs) (tree.Binary (n + length ls) l r)
   -- lexp^6 → - exp^7
-  minus : (n : ℕ) (ps : List Part) (t : Graded) (p : Place) → Derives (Any 7) (suc n) ps t
-      → Derives (LeftOnly 6) n (part.Minus p ∷ ps) (tree.Negated n t)
+  minus : (n : ℕ) (ps : List Part) (t : Graded) (p : Place) → Grades (Any 7) (suc n) ps t
+      → Grades (LeftOnly 6) n (part.Minus p ∷ ps) (tree.Negated n t)
   -- lpat^6 → - integer
-  pattern_minus : (n : ℕ) (p : Place) → Derives (LeftOnly 6) n (part.PatternMinus p ∷ part.Operand ∷ []) (tree.Negated n (tree.Operand (suc n)))
+  pattern_minus : (n : ℕ) (p : Place) → Grades (LeftOnly 6) n (part.PatternMinus p ∷ part.Operand ∷ []) (tree.Negated n (tree.Operand (suc n)))
   -- rexp^i → exp^(i+1) qop^(r,i) (rexp^i | exp^(i+1))
-  any_right : (i n : ℕ) (ls rs : List Part) (l r : Graded) (p : Place) → Derives (Any (suc i)) n ls l → Derives (Any (suc i)) (suc (n + length ls)) rs r
-      → Derives (RightOnly i) n (ls ++ part.Operator p (record { level = i; direction = Right }) ∷ rs) (tree.Binary (n + length ls) l r)
-  right_right : (i n : ℕ) (ls rs : List Part) (l r : Graded) (p : Place) → Derives (Any (suc i)) n ls l → Derives (RightOnly i) (suc (n + length ls)) rs r
-      → Derives (RightOnly i) n (ls ++ part.Operator p (record { level = i; direction = Right }) ∷ rs) (tree.Binary (n + length ls) l r)
+  any_right : (i n : ℕ) (ls rs : List Part) (l r : Graded) (p : Place) → Grades (Any (suc i)) n ls l → Grades (Any (suc i)) (suc (n + length ls)) rs r
+      → Grades (RightOnly i) n (ls ++ part.Operator p (record { level = i; direction = Right }) ∷ rs) (tree.Binary (n + length ls) l r)
+  right_right : (i n : ℕ) (ls rs : List Part) (l r : Graded) (p : Place) → Grades (Any (suc i)) n ls l → Grades (RightOnly i) (suc (n + length ls)) rs r
+      → Grades (RightOnly i) n (ls ++ part.Operator p (record { level = i; direction = Right }) ∷ rs) (tree.Binary (n + length ls) l r)

@@ -59,13 +59,13 @@ by_turn Opens x y z = y
 by_turn Clashes x y z = z
 
 -- closes what binds tighter than the next operator: what stays open, and the operator's left operand
-abbrev pub left_of : List Open → Graded → Fixity → Option (List Open × Graded)
-left_of [] t next = Some ([], t)
-left_of (o ∷ os) t next = by_turn (turn_of o next) (left_of os (close o t) next) (Some (o ∷ os, t)) None
+abbrev pub with_left_operand : List Open → Graded → Fixity → Option (List Open × Graded)
+with_left_operand [] t next = Some ([], t)
+with_left_operand (o ∷ os) t next = by_turn (turn_of o next) (with_left_operand os (close o t) next) (Some (o ∷ os, t)) None
 
-abbrev pub is_empty : List Open → Bool
-is_empty [] = true
-is_empty _ = false
+abbrev pub nothing_open : List Open → Bool
+nothing_open [] = true
+nothing_open _ = false
 
 -- nothing is open round the demanded root, and something is round each later operator
 abbrev pub keeps_root : Option ℕ → ℕ → Bool → Bool
@@ -77,24 +77,24 @@ open_minus os o = by_turn (turn_at os minus) None (Some (o ∷ os)) None
 
 abbrev pub open_operator : Option ℕ → ℕ → Fixity → Option (List Open × Graded) → Option (List Open)
 open_operator root n f None = None
-open_operator root n f (Some (os, l)) = if keeps_root root n (is_empty os) then Some (Operator n f l ∷ os) else None
+open_operator root n f (Some (os, l)) = if keeps_root root n (nothing_open os) then Some (Operator n f l ∷ os) else None
 
 -- takes the part of this number
-abbrev pub step : Option ℕ → ℕ → Part → List Open → Option (List Open)
-step root n part.Operand os = Some os
-step root n (part.Minus p) os = open_minus os (Minus n)
-step root n (part.PatternMinus p) os = open_minus os (PatternMinus n)
-step root n (part.Operator p f) os = open_operator root n f (left_of os (tree.Operand (n - 1)) f)
+abbrev pub take_part : Option ℕ → ℕ → Part → List Open → Option (List Open)
+take_part root n part.Operand os = Some os
+take_part root n (part.Minus p) os = open_minus os (Minus n)
+take_part root n (part.PatternMinus p) os = open_minus os (PatternMinus n)
+take_part root n (part.Operator p f) os = open_operator root n f (with_left_operand os (tree.Operand (n - 1)) f)
 
 -- takes the parts from this number on
 abbrev pub run : Option ℕ → ℕ → List Part → List Open → Option (List Open)
 run root n [] os = Some os
-run root n (p ∷ ps) os = option_and_then (run root (suc n) ps) (step root n p os)
+run root n (p ∷ ps) os = option_and_then (run root (suc n) ps) (take_part root n p os)
 
 -- the first part that can't be taken has this number
-pub record StopsAt (seq : Infix) (number : ℕ) : Type 0 where
+pub record IsStuckAt (seq : Infix) (number : ℕ) : Type 0 where
   pub part : Part
   pub stack : List Open
   pub stands : slice_get seq.parts number ≡ Some part
   pub taken : run seq.root 0 (take number seq.parts) [] ≡ Some stack
-  pub stops : step seq.root number part stack ≡ None
+  pub stops : take_part seq.root number part stack ≡ None

@@ -11,7 +11,7 @@ use Rattle.hr_fixity.specs.declared.sequence.Part.TheVariants.{Operand, Operator
 use Rattle.hr_fixity.specs.declared.sequence.Infix.{Infix}
 use Rattle.hr_fixity.specs.declared.tree.Graded.{Graded}
 use Rattle.hr_fixity.specs.declared.tree.Graded.TheVariants as tree
-use Rattle.hr_fixity.specs.Productions.{Derives, Any}
+use Rattle.hr_fixity.specs.Productions.{Grades, Any}
 
 -- the operator that is demanded stands at the root
 abbrev pub HasRoot : Option ℕ → Graded → Type 0
@@ -20,11 +20,11 @@ HasRoot (Some r) t = (left right : Graded) × (t ≡ tree.Binary r left right)
 
 -- the tree flattens to the sequence, by the graded productions from exp^0 on, with the root that is demanded
 pub record IsResolved (seq : Infix) (t : Graded) : Type 0 where
-  pub graded : Derives (Any 0) 0 seq.parts t
+  pub graded : Grades (Any 0) 0 seq.parts t
   pub rooted : HasRoot seq.root t
 
-abbrev pub HasNoTree : Infix → Type 0
-HasNoTree seq = (t : Graded) → IsResolved seq t → ⊥
+abbrev pub HasNoGrading : Infix → Type 0
+HasNoGrading seq = (t : Graded) → IsResolved seq t → ⊥
 
 -- a root that is cut off isn't demanded
 abbrev pub root_up_to : ℕ → Option ℕ → Option ℕ
@@ -67,19 +67,19 @@ place_at None = None
 place_at (Some p) = place_of p
 
 -- the places of the pair that is shown where the part behind the parts of before is the first that can't stand there
-abbrev pub Shows : List Part → Part → FixityError → Type 0
-Shows before p (FixityConflict left right) = (place_at (beside before p) ≡ Some left) × (place_of p ≡ Some right)
-Shows before p (Memory e) = Unit {0}
+abbrev pub ShowsPair : List Part → Part → FixityError → Type 0
+ShowsPair before p (FixityConflict left right) = (place_at (beside before p) ≡ Some left) × (place_of p ≡ Some right)
+ShowsPair before p (Memory e) = Unit {0}
 
 -- right is the first operator up to whose right operand the sequence has no tree
 pub record IsConflict (seq : Infix) (error : FixityError) : Type 0 where
   pub number : ℕ
   pub operator : Part
   pub stands : slice_get seq.parts number ≡ Some operator
-  pub shows : Shows (take number seq.parts) operator error
-  pub none : HasNoTree (up_to seq number)
+  pub shows : ShowsPair (take number seq.parts) operator error
+  pub none : HasNoGrading (up_to seq number)
   pub first : (n : ℕ) (p : Part) → n < number → slice_get seq.parts n ≡ Some p → IsTrue (is_operator p) → (t : Graded) × IsResolved (up_to seq n) t
-  pub refused : HasNoTree seq
+  pub refused : HasNoGrading seq
 
 -- a refusal that isn't for want of memory
 abbrev pub IsRefused : Infix → FixityError → Type 0

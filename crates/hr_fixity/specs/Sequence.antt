@@ -33,7 +33,7 @@ abbrev pub IsRootOf : List Part → Option ℕ → Type 0
 IsRootOf ps None = Unit {0}
 IsRootOf ps (Some r) = IsOperatorAt ps r
 
-pub record IsSequence (seq : Infix) : Type 0 where
+pub record IsInfixSequence (seq : Infix) : Type 0 where
   pub turns : take_turns Term seq.parts ≡ true
   pub root : IsRootOf seq.parts seq.root
   pub few : length seq.parts < 2 ^ 32

@@ -1,7 +1,7 @@
 ghost use Rattle.std.specs.Prelude.{◌≡◌, IfOk, IsSome, reverse, Some};
 ghost use Rattle.std.specs.List.{find};
 ghost use Rattle.std.specs.Option.{option_copied};
-ghost use Rattle.hr_fixity.specs.Resolved.{Shows, beside, is_operator, is_within, level_of, place_at, place_of};
+ghost use Rattle.hr_fixity.specs.Resolved.{ShowsPair, beside, is_operator, is_within, level_of, place_at, place_of};
 ghost use Rattle.hr_fixity.specs.declared.sequence.Part.TheVariants.{Operator};
 
 use crate::{FixityError, Part};
@@ -81,7 +81,7 @@ fn shown_beside<'a>(before: &'a [Part], part: &Part) -> Option<&'a Part>
 pub fn conflict(before: &[Part], part: &Part) -> FixityError
     requires left { IsSome (place_at (beside before.now part.now)) }
     requires right { IsSome (place_of part.now) }
-    ensures { Shows before.now part.now result }
+    ensures { ShowsPair before.now part.now result }
 {
     match shown_beside(before, part) {
         None => unreachable!(),

@@ -1,7 +1,7 @@
 ghost use Rattle.std.specs.Prelude.{◌≡◌, ℕ, ◌<◌, ◌^◌, ◌-◌, length, IfOk, IfErr, MatchOption, MatchResult, [], if◌then◌else◌, None, Some};
 ghost use Rattle.hr_fixity.specs.Reader as reader;
 ghost use Rattle.hr_fixity.specs.Resolved.{IsResolved, IsRefused, IsMemory};
-ghost use Rattle.hr_fixity.specs.Sequence.{IsSequence, IsBehindOperand};
+ghost use Rattle.hr_fixity.specs.Sequence.{IsInfixSequence, IsBehindOperand};
 ghost use Rattle.hr_fixity.specs.declared.tree.Graded.{Graded};
 ghost use Rattle.hr_fixity.specs.declared.tree.Graded.TheVariants as tree;
 
@@ -38,7 +38,7 @@ fn open_operator(
     fixity: Fixity,
 ) -> Result<bool, AllocError>
     requires { 0 < number }
-    ensures { IfOk result (λ opened. reader.open_operator root number fixity (reader.left_of stack.old (tree.Operand (number - 1)) fixity) ≡ if opened then Some stack.new else None) }
+    ensures { IfOk result (λ opened. reader.open_operator root number fixity (reader.with_left_operand stack.old (tree.Operand (number - 1)) fixity) ≡ if opened then Some stack.new else None) }
 {
     match stack.left_of(alloc, Graded::Operand(number - 1), fixity)? {
         None => Ok(false),
@@ -65,7 +65,7 @@ fn take_part(
     part: &Part,
 ) -> Result<bool, AllocError>
     requires { IsBehindOperand number part.now }
-    ensures { IfOk result (λ taken. reader.step root number part.now stack.old ≡ if taken then Some stack.new else None) }
+    ensures { IfOk result (λ taken. reader.take_part root number part.now stack.old ≡ if taken then Some stack.new else None) }
 {
     match part {
         Part::Operand => Ok(true),
@@ -77,9 +77,9 @@ fn take_part(
 
 /// Takes the parts in order, up to the first that has no place: its number is the answer.
 fn take_parts(alloc: Global, stack: &mut Stack, seq: &Infix) -> Result<Option<usize>, AllocError>
-    requires sequence { IsSequence seq.now }
+    requires sequence { IsInfixSequence seq.now }
     requires fresh { stack.old ≡ [] }
-    ensures { IfOk result (λ stop. MatchOption stop (reader.run seq.now.root 0 seq.now.parts [] ≡ Some stack.new) (reader.StopsAt seq.now)) }
+    ensures { IfOk result (λ stop. MatchOption stop (reader.run seq.now.root 0 seq.now.parts [] ≡ Some stack.new) (reader.IsStuckAt seq.now)) }
 {
     for (number, part) in seq.parts.as_slice().iter().enumerate() {
         if !take_part(alloc, stack, seq.root, number as u32, part)? {
@@ -91,7 +91,7 @@ fn take_parts(alloc: Global, stack: &mut Stack, seq: &Infix) -> Result<Option<us
 
 /// The tree of a sequence.
 pub fn resolve(alloc: Global, seq: &Infix) -> Result<Graded, FixityError>
-    requires { IsSequence seq.now }
+    requires { IsInfixSequence seq.now }
     ensures tree { IfOk result (IsResolved seq.now) }
     ensures only { (t : Graded) → IsResolved seq.now t → MatchResult result (λ u. u ≡ t) IsMemory }
     ensures refusal { IfErr result (IsRefused seq.now) }

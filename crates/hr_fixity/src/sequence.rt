@@ -1,5 +1,5 @@
 ghost use Rattle.std.specs.Prelude.{◌≡◌, ◌↔◌, IsTrue};
-ghost use Rattle.hr_fixity.specs.Sequence.{IsRootOf, IsSequence, take_turns};
+ghost use Rattle.hr_fixity.specs.Sequence.{IsRootOf, IsInfixSequence, take_turns};
 ghost use Rattle.hr_fixity.specs.declared.sequence.Awaited.TheVariants.{Term};
 
 use hr_base::{Place, Seq};
@@ -93,7 +93,7 @@ impl Infix {
     /// Whether this is a sequence: operands and operators take turns, an operand comes first and
     /// last, levels are at most 9, the root is an infix operator, and the parts can be numbered.
     pub fn is_sequence(&self) -> bool
-        ensures { IsTrue result ↔ IsSequence self.now }
+        ensures { IsTrue result ↔ IsInfixSequence self.now }
     {
         let parts = self.parts.as_slice();
         if !takes_turns(parts) {

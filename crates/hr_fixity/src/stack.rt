@@ -125,7 +125,7 @@ impl Stack {
 
     /// Whether no operator is open.
     pub fn is_empty(&self) -> bool
-        ensures { result ≡ reader.is_empty self.now }
+        ensures { result ≡ reader.nothing_open self.now }
     {
         self.open.is_empty()
     }
@@ -177,7 +177,7 @@ impl Stack {
         tree: Graded,
         next: Fixity,
     ) -> Result<Option<Graded>, AllocError>
-        ensures { IfOk result (λ left. MatchOption left (reader.left_of self.old tree next ≡ None) (λ left. reader.left_of self.old tree next ≡ Some (self.new, left))) }
+        ensures { IfOk result (λ left. MatchOption left (reader.with_left_operand self.old tree next ≡ None) (λ left. reader.with_left_operand self.old tree next ≡ Some (self.new, left))) }
     {
         let mut tree = tree;
         'closing: loop {

@@ -9,9 +9,9 @@ use Rattle.std.proofs.lemmas.Bool.{cases_eq, cases_lt}
 use Rattle.std.proofs.lemmas.List.{length-set, get_or-set_same, get_or-set_other, get_or-replicate, get_or_past, length-replicate, take-append-le, take_at, take-append-drop, get_or_default, drop_more, drop_all}
 use Rattle.std.proofs.lemmas.List.Elements.{Contains-push, Contains-push_cases, Contains-append_left, Contains-append_right, Contains-append_cases, All-contains}
 use Rattle.std.proofs.lemmas.Cmp.{ranked}
-use Rattle.hr_graph.specs.Graph.{IsWithin, IsReady, IsNext, IsInOrder}
+use Rattle.hr_graph.specs.Graph.{IsWithin, MayCome, IsNext, IsInOrder}
 use Rattle.hr_graph.specs.Rows.{AreRows}
-use Rattle.hr_graph.specs.Strong.{IsTarget}
+use Rattle.hr_graph.specs.Strong.{IsSuccessor}
 use Rattle.hr_graph.specs.Ready.{IsDone, Settled}
 use Rattle.hr_graph.proofs.Members.{contains_none, contains_more, contains_kept, at_set}
 use Rattle.hr_graph.proofs.RowLemmas.{empty_row}
@@ -31,10 +31,10 @@ pub record IsAgenda (spare : ℕ → Type 0) (nodes : ℕ) (edges : List (ℕ ×
   pub done_is : (v : ℕ) → IsDone done v → Contains order v
   pub is_done : (v : ℕ) → Contains order v → IsDone done v
   pub in_order : IsInOrder nodes edges order
-  pub left_sound : (u v : ℕ) → IsTarget left u v → Contains edges (u, v)
-  pub left_all : (u v : ℕ) → Contains edges (u, v) → IsTarget left u v ⊎ Contains order v
-  pub ready_is : (v : ℕ) → Contains ready v → IsReady nodes edges order v
-  pub waits : (u v : ℕ) → IsTarget waiting v u → Contains edges (u, v)
+  pub left_sound : (u v : ℕ) → IsSuccessor left u v → Contains edges (u, v)
+  pub left_all : (u v : ℕ) → Contains edges (u, v) → IsSuccessor left u v ⊎ Contains order v
+  pub ready_is : (v : ℕ) → Contains ready v → MayCome nodes edges order v
+  pub waits : (u v : ℕ) → IsSuccessor waiting v u → Contains edges (u, v)
   pub placed : (u : ℕ) → u < nodes → (Contains order u ⊎ Contains ready u) ⊎ (IsWaiting waiting order u ⊎ spare u)
 
 -- ---- a key in a set of numbers
@@ -101,10 +101,10 @@ settled spare rest nodes edges left left_after waiting waiting_after done ready 
       | inr ordered ↦ inr ordered
     ] in
     let left_long : length left_after ≡ nodes = ap length s.left_is ∙ length-set left node s.row ∙ keeps.left_long in
-    let left_sound : (u v : ℕ) → IsTarget left_after u v → Contains edges (u, v) = λ u v h.
-    at_set (λ u row. Contains row v → Contains edges (u, v)) left node s.row [] long (sound_row v) (λ u ne h. keeps.left_sound u v h) u (subst (λ rows. IsTarget rows u v) s.left_is h) in
-    let left_all : (u v : ℕ) → Contains edges (u, v) → IsTarget left_after u v ⊎ Contains order v = λ u v h.
-    subst (λ rows. IsTarget rows u v ⊎ Contains order v) (sym s.left_is)
+    let left_sound : (u v : ℕ) → IsSuccessor left_after u v → Contains edges (u, v) = λ u v h.
+    at_set (λ u row. Contains row v → Contains edges (u, v)) left node s.row [] long (sound_row v) (λ u ne h. keeps.left_sound u v h) u (subst (λ rows. IsSuccessor rows u v) s.left_is h) in
+    let left_all : (u v : ℕ) → Contains edges (u, v) → IsSuccessor left_after u v ⊎ Contains order v = λ u v h.
+    subst (λ rows. IsSuccessor rows u v ⊎ Contains order v) (sym s.left_is)
     (at_set (λ u row. Contains edges (u, v) → Contains row v ⊎ Contains order v) left node s.row [] long (all_row v) (λ u ne h. keeps.left_all u v h) u h) in
     elim s.outcome [
       | inl gets ↦ record {
@@ -116,14 +116,14 @@ settled spare rest nodes edges left left_after waiting waiting_after done ready 
         in_order = keeps.in_order;
         left_sound = left_sound;
         left_all = left_all;
-        ready_is = λ v h. keys_more ready node (IsReady nodes edges order)
+        ready_is = λ v h. keys_more ready node (MayCome nodes edges order)
             (record {
               below = within;
               fresh = fresh;
               after = λ v edge. elim (all_row v edge) [ inl in' ↦ absurd (contains_none v (subst (λ row. Contains row v) gets.row_is in')) | inr ordered ↦ ordered ];
             })
             keeps.ready_is v (subst (λ keys. Contains keys v) gets.ready_is h);
-        waits = λ u v h. keeps.waits u v (subst (λ rows. IsTarget rows v u) gets.waiting_is h);
+        waits = λ u v h. keeps.waits u v (subst (λ rows. IsSuccessor rows v u) gets.waiting_is h);
         placed = λ u u_in. elim (keeps.placed u u_in) [
           | inl known ↦ inl (elim known [
             | inl ordered ↦ inl ordered
@@ -154,7 +154,7 @@ settled spare rest nodes edges left left_after waiting waiting_after done ready 
             ready_is = λ v h. keeps.ready_is v (subst (λ keys. Contains keys v) w.ready_is h);
             waits = λ u v h. at_set (λ v row. Contains row u → Contains edges (u, v)) waiting w.target (get_or waiting w.target [] ++ node ∷ []) [] target_in
                 (contains_more (λ u. Contains edges (u, w.target)) (get_or waiting w.target []) node (λ u h. keeps.waits u w.target h) edge u)
-                (λ v ne h. keeps.waits u v h) v (subst (λ rows. IsTarget rows v u) w.waiting_is h);
+                (λ v ne h. keeps.waits u v h) v (subst (λ rows. IsSuccessor rows v u) w.waiting_is h);
             placed = λ u u_in. elim (keeps.placed u u_in) [
               | inl known ↦ inl (elim known [ inl ordered ↦ inl ordered | inr in' ↦ inr (subst (λ keys. Contains keys u) (sym w.ready_is) in') ])
               | inr later ↦ elim later [
@@ -197,7 +197,7 @@ ordered_after nodes edges order u v each (k, within, is) edge =
 pub released_fresh : (nodes : ℕ) (edges : List (ℕ × ℕ)) (left waiting : List (List ℕ)) (done : List Bool) (ready order : List ℕ) (i u : ℕ)
     → IsAgenda (λ _. ⊥) nodes edges left waiting done ready order → Contains ready i → Contains (get_or waiting i []) u → Contains (order ++ i ∷ []) u → ⊥
 released_fresh nodes edges left waiting done ready order i u keeps at waits in' =
-    let is : IsReady nodes edges order i = keeps.ready_is i at in
+    let is : MayCome nodes edges order i = keeps.ready_is i at in
     let edge : Contains edges (u, i) = keeps.waits u i waits in
     elim (Contains-push_cases order i u in') [
       | inl old ↦ is.fresh (ordered_after nodes edges order u i keeps.in_order old edge)
@@ -216,7 +216,7 @@ pub put : (nodes : ℕ) (edges : List (ℕ × ℕ)) (left waiting : List (List �
 put nodes edges left waiting done ready rest order i keeps split above =
     let at : Contains ready i = subst (λ keys. Contains keys i) (sym split) (Contains-append_left (i ∷ []) rest i (Contains-push [] i)) in
     let later : (v : ℕ) → Contains rest v → Contains ready v = λ v h. subst (λ keys. Contains keys v) (sym split) (Contains-append_right (i ∷ []) rest v h) in
-    let is : IsReady nodes edges order i = keeps.ready_is i at in
+    let is : MayCome nodes edges order i = keeps.ready_is i at in
     let in_ready : (v : ℕ) → Contains ready v → (v ≡ i) ⊎ Contains rest v = λ v h.
     elim (Contains-append_cases (i ∷ []) rest v (subst (λ keys. Contains keys v) split h)) [
       | inl first ↦ elim (Contains-push_cases [] i v first) [ inl none ↦ absurd (contains_none v none) | inr e ↦ inl (sym e) ]
@@ -247,7 +247,7 @@ put nodes edges left waiting done ready rest order i keeps split above =
       left_sound = keeps.left_sound;
       left_all = λ u v h. elim (keeps.left_all u v h) [ inl in' ↦ inl in' | inr ordered ↦ inr (contains_kept order i v ordered) ];
       ready_is = λ v h.
-          let old : IsReady nodes edges order v = keeps.ready_is v (later v h) in
+          let old : MayCome nodes edges order v = keeps.ready_is v (later v h) in
           record {
             below = old.below;
             fresh = λ in'. elim (Contains-push_cases order i v in') [ inl ordered ↦ old.fresh ordered | inr e ↦ let lt : i < v = above v h in absurd (omega arith) ];
@@ -301,7 +301,7 @@ start_agenda nodes edges rows are = record {
 }
 
 pub nothing_ready : (nodes : ℕ) (edges : List (ℕ × ℕ)) (left waiting : List (List ℕ)) (done : List Bool) (ready order : List ℕ)
-    → IsAgenda (λ _. ⊥) nodes edges left waiting done ready order → ready ≡ [] → (node : ℕ) → IsReady nodes edges order node → ⊥
+    → IsAgenda (λ _. ⊥) nodes edges left waiting done ready order → ready ≡ [] → (node : ℕ) → MayCome nodes edges order node → ⊥
 nothing_ready nodes edges left waiting done ready order keeps empty node r = elim (keeps.placed node r.below) [
   | inl known ↦ elim known [
     | inl ordered ↦ r.fresh ordered
@@ -351,7 +351,7 @@ not_done_by false never = refl
 pub ready_undone : (nodes : ℕ) (edges : List (ℕ × ℕ)) (left waiting : List (List ℕ)) (done : List Bool) (ready order : List ℕ) (i : ℕ)
     → IsAgenda (λ _. ⊥) nodes edges left waiting done ready order → Contains ready i → undone (set done i true) < undone done
 ready_undone nodes edges left waiting done ready order i keeps at =
-    let is : IsReady nodes edges order i = keeps.ready_is i at in
+    let is : MayCome nodes edges order i = keeps.ready_is i at in
     undone_falls done i (omega (arith, is.below, keeps.done_long)) (not_done_by (get_or done i false) (λ h. is.fresh (keeps.done_is i h)))
 
 -- the targets that are left are nodes

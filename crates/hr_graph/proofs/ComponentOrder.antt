@@ -5,10 +5,10 @@ use Rattle.std.proofs.lemmas.Bool.Decides.{nat_tests}
 use Rattle.std.proofs.lemmas.Bool.{cases_eq, cases_lt}
 use Rattle.std.proofs.lemmas.List.{append-nil, length_push, get_or_push, get_or_append_left, take_more, take_all, take-append-le, take_at, length-take-le, get_or-take, take-take, get_or_default}
 use Rattle.std.proofs.lemmas.List.Elements.{Contains-push, Contains-push_cases, Contains-get_or}
-use Rattle.hr_graph.specs.Graph.{IsWithin, Reaches, here, along, Mutual, IsReady, IsNext, IsInOrder, IsOrder, IsPlaced, IsNextComponent, AreInOrder, AreComponents}
+use Rattle.hr_graph.specs.Graph.{IsWithin, LeadsTo, here, along, Mutual, MayCome, IsNext, IsInOrder, IsOrder, IsPlaced, IsNextComponent, AreInOrder, AreComponents}
 use Rattle.hr_graph.specs.Strong.{AreLabels}
 use Rattle.hr_graph.specs.Cycle.{IsNumbered}
-use Rattle.hr_graph.specs.Groups.{IsLeastOf, AreLeasts, AreLinks, AreMembers, add_row, groups_of}
+use Rattle.hr_graph.specs.Groups.{IsLeastOf, AreLeasts, AreLinks, AreGathered, add_row, groups_of}
 use Rattle.hr_graph.proofs.Members.{contains_none, contains_kept}
 use Rattle.hr_graph.proofs.StrongSteps.{at_push}
 use Rattle.hr_graph.proofs.LevelSteps.{ends_below}
@@ -46,7 +46,7 @@ pub record IsCondensed (n : ℕ) (edges : List (ℕ × ℕ)) (labels leasts : Li
   pub labels_are : AreLabels n edges labels
   pub leasts_are : AreLeasts labels leasts
   pub links_are : AreLinks edges leasts links
-  pub rows_are : AreMembers leasts rows
+  pub rows_are : AreGathered leasts rows
 
 module _ (n : ℕ) (edges : List (ℕ × ℕ)) (labels leasts : List ℕ) (links : List (ℕ × ℕ)) (rows : List (List ℕ)) (g : IsCondensed n edges labels leasts links rows) where
   least_is : (v : ℕ) → v < n → IsLeastOf labels v (get_or leasts v 0)
@@ -71,19 +71,19 @@ module _ (n : ℕ) (edges : List (ℕ × ℕ)) (labels leasts : List ℕ) (links
       let b : get_or labels u 0 ≤ get_or labels v 0 = labels_fall n edges labels v u g.labels_are m.1 in
       omega arith
 
-  label_reaches : (u v : ℕ) → u < n → v < n → get_or leasts u 0 ≡ get_or leasts v 0 → Reaches edges u v
+  label_reaches : (u v : ℕ) → u < n → v < n → get_or leasts u 0 ≡ get_or leasts v 0 → LeadsTo edges u v
   label_reaches u v lu lv same = g.labels_are.way u v lu lv (same_label u v lu lv same)
 
-  reaches_in : (u w : ℕ) → u < n → Reaches edges u w → w < n
+  reaches_in : (u w : ℕ) → u < n → LeadsTo edges u w → w < n
   reaches_in u w lt (here _) = lt
   reaches_in u w lt (along _ v _ edge rest) = reaches_in v w (ends_below n edges u v g.ends edge).1 rest
 
-  reaches_on : (u v w : ℕ) → Reaches edges u v → Reaches edges v w → Reaches edges u w
+  reaches_on : (u v w : ℕ) → LeadsTo edges u v → LeadsTo edges v w → LeadsTo edges u w
   reaches_on u v w (here _) second = second
   reaches_on u v w (along _ x _ edge rest) second = along u x w edge (reaches_on x v w rest second)
 
   -- from a node of the component of a, or of one in order, only to such
-  goes_on : (order : List ℕ) (a u w : ℕ) → IsInOrder n links order → IsReady n links order a → u < n → (get_or leasts u 0 ≡ a) ⊎ Contains order (get_or leasts u 0) → Reaches edges u w
+  goes_on : (order : List ℕ) (a u w : ℕ) → IsInOrder n links order → MayCome n links order a → u < n → (get_or leasts u 0 ≡ a) ⊎ Contains order (get_or leasts u 0) → LeadsTo edges u w
       → (get_or leasts w 0 ≡ a) ⊎ Contains order (get_or leasts w 0)
   goes_on order a u w each ready lt from (here _) = from
   goes_on order a u w each ready lt from (along _ v _ edge rest) =
@@ -144,14 +144,14 @@ module _ (n : ℕ) (edges : List (ℕ × ℕ)) (labels leasts : List ℕ) (links
             let b : ℕ = get_or leasts other 0 in
             let lb : b < n = least_in other free.below in
             let le : b ≤ other = (least_is other free.below).below in
-            let ready : IsReady n links order b = record {
+            let ready : MayCome n links order b = record {
               below = lb;
               fresh = λ in'. free.fresh (sofar.placed other free.below in');
               after = λ target link.
                   let s : (b ≢ target) × ((x : ℕ) × (y : ℕ) × Contains edges (x, y) × (get_or leasts x 0 ≡ b) × (get_or leasts y 0 ≡ target)) = g.links_are.sound b target link in
                   let lx : s.1.0 < n = (ends_below n edges s.1.0 s.1.1 g.ends s.1.2).0 in
                   let ly : s.1.1 < n = (ends_below n edges s.1.0 s.1.1 g.ends s.1.2).1 in
-                  let way : Reaches edges other s.1.1 = reaches_on other s.1.0 s.1.1 (label_reaches other s.1.0 free.below lx (sym s.1.3)) (along s.1.0 s.1.1 s.1.1 s.1.2 (here s.1.1)) in
+                  let way : LeadsTo edges other s.1.1 = reaches_on other s.1.0 s.1.1 (label_reaches other s.1.0 free.below lx (sym s.1.3)) (along s.1.0 s.1.1 s.1.1 s.1.2 (here s.1.1)) in
                   elim (free.after s.1.1 way) [
                     | inl p ↦ subst (Contains order) s.1.4 (sofar.only s.1.1 p).1
                     | inr back ↦ absurd (s.0 (same_least other s.1.1 free.below ly (mutual_label other s.1.1 (way, back)) ∙ s.1.4))
@@ -303,14 +303,14 @@ pub ends_within : (n : ℕ) (edges : List (ℕ × ℕ)) (labels leasts given : L
 ends_within n edges labels leasts given ends are least is = subst (λ m. IsWithin m edges) (sym (ap length is ∙ least.long ∙ are.long)) ends
 
 pub condensed : (n : ℕ) (edges : List (ℕ × ℕ)) (labels given_labels leasts given_leasts given_again : List ℕ) (links : List (ℕ × ℕ)) (rows : List (List ℕ))
-    → IsWithin n edges → AreLabels n edges labels → given_labels ≡ labels → AreLeasts given_labels leasts → given_leasts ≡ leasts → AreLinks edges given_leasts links → given_again ≡ leasts → AreMembers given_again rows
+    → IsWithin n edges → AreLabels n edges labels → given_labels ≡ labels → AreLeasts given_labels leasts → given_leasts ≡ leasts → AreLinks edges given_leasts links → given_again ≡ leasts → AreGathered given_again rows
     → IsCondensed n edges labels leasts links rows
 condensed n edges labels given_labels leasts given_leasts given_again links rows ends are a least b link d members = record {
   ends = ends;
   labels_are = are;
   leasts_are = subst (λ ls. AreLeasts ls leasts) a least;
   links_are = subst (λ ls. AreLinks edges ls links) b link;
-  rows_are = subst (λ ls. AreMembers ls rows) d members;
+  rows_are = subst (λ ls. AreGathered ls rows) d members;
 }
 
 -- the ends of the links are nodes
@@ -328,11 +328,11 @@ links_below n edges labels given_labels leasts given_leasts links ends are a lea
     (omega (arith, s.1.3), omega (arith, s.1.4))
 
 pub whole_links : (n : ℕ) (edges : List (ℕ × ℕ)) (labels leasts : List ℕ) (links given : List (ℕ × ℕ)) (rows : List (List ℕ)) (order : List ℕ)
-    → IsCondensed n edges labels leasts links rows → given ≡ links → IsInOrder n given order → ((node : ℕ) → IsReady n given order node → ⊥) → AreComponents n edges (groups_of rows order)
+    → IsCondensed n edges labels leasts links rows → given ≡ links → IsInOrder n given order → ((node : ℕ) → MayCome n given order node → ⊥) → AreComponents n edges (groups_of rows order)
 whole_links n edges labels leasts links given rows order g is each all =
     groups_are n edges labels leasts links rows g order
     (whole_order n links order (links_below n edges labels labels leasts leasts links g.ends g.labels_are refl g.leasts_are refl g.links_are) (links_numbered n edges labels leasts links rows g)
-    (subst (λ es. IsInOrder n es order) is each) (subst (λ es. (node : ℕ) → IsReady n es order node → ⊥) is all))
+    (subst (λ es. IsInOrder n es order) is each) (subst (λ es. (node : ℕ) → MayCome n es order node → ⊥) is all))
 
 pub is_zero : (n : ℕ) → true ≡ (n == 0) → n ≡ 0
 is_zero n is = grind (arith, nat_tests)

@@ -3,7 +3,7 @@ use Rattle.std.proofs.Common.{◌≡◌, ◌<◌, ◌≤◌, ◌++◌, ◌∷◌
 use Rattle.std.specs.Prelude.{Contains, IfNone, IfSome}
 use Rattle.std.proofs.lemmas.Bool.{cases_lt}
 use Rattle.std.proofs.lemmas.List.Elements.{Contains-push}
-use Rattle.hr_graph.specs.Graph.{IsWithin, Reaches, here, along}
+use Rattle.hr_graph.specs.Graph.{IsWithin, LeadsTo, here, along}
 use Rattle.hr_graph.specs.Strong.{AreLabels}
 use Rattle.hr_graph.specs.Levels.{steps_of}
 use Rattle.hr_graph.specs.Cycle.{IsNumbered, IsFirstOn, IsFirstEqual, IsNearest, IsNearer, IsNotAfter, lesser}
@@ -51,7 +51,7 @@ equal_no numbers edges (Some first) e differ keeps = (
 -- ---- by labels
 
 -- a way leads to no greater label
-pub labels_fall : (nodes : ℕ) (edges : List (ℕ × ℕ)) (labels : List ℕ) (u w : ℕ) → AreLabels nodes edges labels → Reaches edges u w → get_or labels w 0 ≤ get_or labels u 0
+pub labels_fall : (nodes : ℕ) (edges : List (ℕ × ℕ)) (labels : List ℕ) (u w : ℕ) → AreLabels nodes edges labels → LeadsTo edges u w → get_or labels w 0 ≤ get_or labels u 0
 labels_fall nodes edges labels u w are (here _) = omega arith
 labels_fall nodes edges labels u w are (along _ v _ edge rest) = let le : get_or labels v 0 ≤ get_or labels u 0 = are.falls u v edge in omega (arith, labels_fall nodes edges labels v w are rest)
 

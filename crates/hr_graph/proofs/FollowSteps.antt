@@ -6,7 +6,7 @@ use Rattle.std.proofs.lemmas.List.{length_push, length-append, length-map, lengt
 use Rattle.std.proofs.lemmas.List.Elements.{Contains-push}
 use Rattle.hr_graph.specs.declared.strong.Mark.{Mark}
 use Rattle.hr_graph.specs.declared.strong.Mark.TheVariants.{Unseen, Open, Closed}
-use Rattle.hr_graph.specs.Strong.{IsTarget, stay, go, mark_of, IsSearch, IsSound, Follows, Joined, AreEarly, closing, waiting, weigh, work, ones, loads, IsSeen}
+use Rattle.hr_graph.specs.Strong.{IsSuccessor, stay, go, mark_of, IsSearch, IsSound, IsFollowing, Joined, AreEarly, closed_from, waiting, weigh, work, ones, loads, IsSeen}
 use Rattle.hr_graph.proofs.Members.{contains_more}
 use Rattle.hr_graph.proofs.StrongSteps.{way_on, entered, passed, joined, popped, shut, pairs_last}
 
@@ -32,12 +32,12 @@ weigh_choice : (b : Bool) (w p label : ℕ) (ws : List ℕ) (marks : List Mark) 
 weigh_choice true w p label ws marks = refl
 weigh_choice false w p label ws marks = refl
 
-weigh_head : (label start w : ℕ) (m : Mark) (ws : List ℕ) (marks after : List Mark) → weigh ws after ≡ weigh ws marks → weigh (w ∷ ws) (closing label start m ∷ after) ≡ weigh (w ∷ ws) (m ∷ marks)
+weigh_head : (label start w : ℕ) (m : Mark) (ws : List ℕ) (marks after : List Mark) → weigh ws after ≡ weigh ws marks → weigh (w ∷ ws) (closed_from label start m ∷ after) ≡ weigh (w ∷ ws) (m ∷ marks)
 weigh_head label start w Unseen ws marks after same = ap (λ n. w + n) same
 weigh_head label start w (Open p) ws marks after same = weigh_choice (nat_lt p start) w p label ws after ∙ same
 weigh_head label start w (Closed other) ws marks after same = same
 
-pub weigh_shut : (ws : List ℕ) (marks after : List Mark) (label start : ℕ) → length after ≡ length marks → ((v : ℕ) → mark_of after v ≡ closing label start (mark_of marks v)) → weigh ws after ≡ weigh ws marks
+pub weigh_shut : (ws : List ℕ) (marks after : List Mark) (label start : ℕ) → length after ≡ length marks → ((v : ℕ) → mark_of after v ≡ closed_from label start (mark_of marks v)) → weigh ws after ≡ weigh ws marks
 weigh_shut [] marks after label start long each = refl
 weigh_shut (w ∷ ws) [] [] label start long each = refl
 weigh_shut (w ∷ ws) [] (a ∷ after) label start long each = absurd (omega (arith, long))
@@ -84,7 +84,7 @@ joined_all before after place j s (k, within, is) small =
 -- ---- the three cases of a target
 
 pub follow_unseen : (rows : List (List ℕ)) (marks : List Mark) (path starts : List ℕ) (pending : List (ℕ × ℕ)) (closed v : ℕ)
-    → Follows rows marks path starts pending closed v → v < length rows → mark_of marks v ≡ Unseen
+    → IsFollowing rows marks path starts pending closed v → v < length rows → mark_of marks v ≡ Unseen
     → IsSound rows (set marks v (Open (length path))) (path ++ v ∷ []) (starts ++ length path ∷ []) (pending ++ waiting (length path) (get_or rows v [])) closed
 follow_unseen rows marks path starts pending closed v f within is =
     let in' : v < length marks = omega (arith, f.long) in
@@ -112,7 +112,7 @@ less_unseen rows marks path starts pending v long within is =
     omega (arith, length_push starts (length path))
 
 pub follow_open : (rows : List (List ℕ)) (marks : List Mark) (path starts fewer : List ℕ) (pending : List (ℕ × ℕ)) (closed v q : ℕ)
-    → Follows rows marks path starts pending closed v → mark_of marks v ≡ Open q → Joined starts fewer q
+    → IsFollowing rows marks path starts pending closed v → mark_of marks v ≡ Open q → Joined starts fewer q
     → IsSound rows marks path fewer pending closed
 follow_open rows marks path starts fewer pending closed v q f is j =
     let rise : AllPairs (λ s t. s < t) starts = f.search.begins.rise in
@@ -128,7 +128,7 @@ pub less_open : (rows : List (List ℕ)) (marks : List Mark) (starts fewer : Lis
 less_open rows marks starts fewer pending q j = omega (arith, ap length j.front, length-take (length fewer) starts)
 
 pub follow_closed : (rows : List (List ℕ)) (marks : List Mark) (path starts : List ℕ) (pending : List (ℕ × ℕ)) (closed v label : ℕ)
-    → Follows rows marks path starts pending closed v → mark_of marks v ≡ Closed label → IsSound rows marks path starts pending closed
+    → IsFollowing rows marks path starts pending closed v → mark_of marks v ≡ Closed label → IsSound rows marks path starts pending closed
 follow_closed rows marks path starts pending closed v label f is = record {
   search = passed rows marks path starts pending closed v label f.search is;
   long = f.long;
@@ -140,10 +140,10 @@ follow_closed rows marks path starts pending closed v label f is = record {
 -- an edge is taken off
 pub follow_next : (rows : List (List ℕ)) (marks : List Mark) (path starts fewer : List ℕ) (pending rest : List (ℕ × ℕ)) (closed start place v : ℕ)
     → IsSound rows marks path starts pending closed → starts ≡ fewer ++ start ∷ [] → start ≤ place → pending ≡ rest ++ (place, v) ∷ []
-    → Follows rows marks path starts rest closed v
+    → IsFollowing rows marks path starts rest closed v
 follow_next rows marks path starts fewer pending rest closed start place v sound last le is =
     let search : IsSearch rows marks path starts (rest ++ (place, v) ∷ []) closed = subst (λ w. IsSearch rows marks path starts w closed) is sound.search in
-    let edge : (place < length path) × IsTarget rows (get_or path place 0) v = search.waits.edge place v (Contains-push rest (place, v)) in
+    let edge : (place < length path) × IsSuccessor rows (get_or path place 0) v = search.waits.edge place v (Contains-push rest (place, v)) in
     record {
       search = popped rows marks path starts rest closed place v search;
       long = sound.long;
@@ -169,7 +169,7 @@ early_all rows path pending start rise early p v (k, within, is) =
 
 pub close_last : (rows : List (List ℕ)) (marks after : List Mark) (path starts fewer : List ℕ) (pending : List (ℕ × ℕ)) (label start : ℕ)
     → IsSound rows marks path starts pending label → starts ≡ fewer ++ start ∷ [] → AreEarly pending start
-    → length after ≡ length marks → ((v : ℕ) → mark_of after v ≡ closing label start (mark_of marks v))
+    → length after ≡ length marks → ((v : ℕ) → mark_of after v ≡ closed_from label start (mark_of marks v))
     → IsSound rows after (take start path) fewer pending (label + 1)
 close_last rows marks after path starts fewer pending label start sound last early long each =
     let search : IsSearch rows marks path (fewer ++ start ∷ []) pending label = subst (λ xs. IsSearch rows marks path xs pending label) last sound.search in
@@ -181,7 +181,7 @@ close_last rows marks after path starts fewer pending label start sound last ear
     }
 
 pub less_close : (rows : List (List ℕ)) (marks after : List Mark) (starts fewer : List ℕ) (pending : List (ℕ × ℕ)) (label start : ℕ)
-    → starts ≡ fewer ++ start ∷ [] → length after ≡ length marks → ((v : ℕ) → mark_of after v ≡ closing label start (mark_of marks v))
+    → starts ≡ fewer ++ start ∷ [] → length after ≡ length marks → ((v : ℕ) → mark_of after v ≡ closed_from label start (mark_of marks v))
     → work rows after fewer pending < work rows marks starts pending
 less_close rows marks after starts fewer pending label start last long each =
     omega (arith, ap length last, length_push fewer start, weigh_shut (loads rows) marks after label start long each)
@@ -205,7 +205,7 @@ seen_choice true p label = tt
 seen_choice false p label = tt
 
 -- closing leaves what was seen so
-pub seen_closing : (label start : ℕ) (m : Mark) → IsSeen m → IsSeen (closing label start m)
+pub seen_closing : (label start : ℕ) (m : Mark) → IsSeen m → IsSeen (closed_from label start m)
 seen_closing label start Unseen h = h
 seen_closing label start (Open p) h = seen_choice (nat_lt p start) p label
 seen_closing label start (Closed other) h = tt

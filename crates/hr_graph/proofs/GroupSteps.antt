@@ -5,7 +5,7 @@ use Rattle.std.specs.List.Sorted.{IsStrictlyIncreasing}
 use Rattle.std.proofs.lemmas.Bool.{cases_eq, cases_lt}
 use Rattle.std.proofs.lemmas.List.{length_push, length-set, length-replicate, length-take-le, get_or_push, get_or_append_left, get_or-set_same, get_or-set_other, get_or-replicate, get_or_past, take_more, get_or_read}
 use Rattle.std.proofs.lemmas.List.Elements.{Contains-push, Contains-get_or}
-use Rattle.hr_graph.specs.Groups.{IsLeastOf, AreLeasts, AreLinks, AreMembers}
+use Rattle.hr_graph.specs.Groups.{IsLeastOf, AreLeasts, AreLinks, AreGathered}
 use Rattle.hr_graph.proofs.Members.{contains_none, contains_more, contains_kept, at_set}
 use Rattle.hr_graph.proofs.RowLemmas.{empty_row}
 use Rattle.hr_graph.proofs.StrongSteps.{at_push}
@@ -136,7 +136,7 @@ rise_more row v rise below k lt = elim (cases_lt (k + 1) (length row)) [
       let up : get_or row k 0 < v = below (get_or row k 0) (Contains-get_or row k 0 (omega arith)) in omega arith
 ]
 
-pub members_none : (n : ℕ) (rows : List (List ℕ)) → rows ≡ replicate n [] → AreMembers [] rows
+pub members_none : (n : ℕ) (rows : List (List ℕ)) → rows ≡ replicate n [] → AreGathered [] rows
 members_none n rows is =
     let none : (a : ℕ) → get_or rows a [] ≡ [] = λ a. ap (λ rs. get_or rs a []) is ∙ empty_row n a in
     record {
@@ -145,8 +145,8 @@ members_none n rows is =
       ascending = λ a. subst IsStrictlyIncreasing (sym (none a)) (λ k lt. absurd (omega (arith, lt)));
     }
 
-pub members_more : (leasts : List ℕ) (rows : List (List ℕ)) (least : ℕ) → AreMembers leasts rows → least < length rows
-    → AreMembers (leasts ++ least ∷ []) (set rows least (get_or rows least [] ++ length leasts ∷ []))
+pub members_more : (leasts : List ℕ) (rows : List (List ℕ)) (least : ℕ) → AreGathered leasts rows → least < length rows
+    → AreGathered (leasts ++ least ∷ []) (set rows least (get_or rows least [] ++ length leasts ∷ []))
 members_more leasts rows least keeps within =
     let new : List ℕ = get_or rows least [] ++ length leasts ∷ [] in
     let last : get_or (leasts ++ least ∷ []) (length leasts) 0 ≡ least = get_or_push leasts least 0 (length leasts) refl in
@@ -168,11 +168,11 @@ members_more leasts rows least keeps within =
           (rise_more (get_or rows least []) (length leasts) (keeps.ascending least) (λ w h. (keeps.sound least w h).0)) (λ a ne. keeps.ascending a);
     }
 
-pub members_step : (leasts : List ℕ) (i : ℕ) (rows : List (List ℕ)) (read new : List ℕ) → AreMembers (take i leasts) rows → i < length leasts → get_or leasts i 0 < length rows
-    → read ≡ get_or rows (get_or leasts i 0) read → new ≡ read ++ i ∷ [] → AreMembers (take (i + 1) leasts) (set rows (get_or leasts i 0) new)
+pub members_step : (leasts : List ℕ) (i : ℕ) (rows : List (List ℕ)) (read new : List ℕ) → AreGathered (take i leasts) rows → i < length leasts → get_or leasts i 0 < length rows
+    → read ≡ get_or rows (get_or leasts i 0) read → new ≡ read ++ i ∷ [] → AreGathered (take (i + 1) leasts) (set rows (get_or leasts i 0) new)
 members_step leasts i rows read new keeps within row_in is grown =
     let least : ℕ = get_or leasts i 0 in
     let long : length (take i leasts) ≡ i = length-take-le i leasts (omega arith) in
     let same : new ≡ get_or rows least [] ++ length (take i leasts) ∷ [] = grown ∙ ap (λ r. r ++ i ∷ []) (get_or_read rows least read row_in is []) ∙ ap (λ n. get_or rows least [] ++ n ∷ []) (sym long) in
-    subst (λ r. AreMembers (take (i + 1) leasts) (set rows least r)) (sym same)
-    (subst (λ ls. AreMembers ls (set rows least (get_or rows least [] ++ length (take i leasts) ∷ []))) (sym (take_more leasts i 0 within)) (members_more (take i leasts) rows least keeps row_in))
+    subst (λ r. AreGathered (take (i + 1) leasts) (set rows least r)) (sym same)
+    (subst (λ ls. AreGathered ls (set rows least (get_or rows least [] ++ length (take i leasts) ∷ []))) (sym (take_more leasts i 0 within)) (members_more (take i leasts) rows least keeps row_in))

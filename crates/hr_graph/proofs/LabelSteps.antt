@@ -5,9 +5,9 @@ use Rattle.std.proofs.lemmas.Bool.{cases_lt}
 use Rattle.std.proofs.lemmas.List.{length_push, length-set, length-map, length-replicate, get_or-replicate, get_or_past, get_or-map}
 use Rattle.hr_graph.specs.declared.strong.Mark.{Mark}
 use Rattle.hr_graph.specs.declared.strong.Mark.TheVariants.{Unseen, Open, Closed}
-use Rattle.hr_graph.specs.Graph.{IsWithin, Reaches, here, along}
+use Rattle.hr_graph.specs.Graph.{IsWithin, LeadsTo, here, along}
 use Rattle.hr_graph.specs.Rows.{AreRows}
-use Rattle.hr_graph.specs.Strong.{Way, stay, go, mark_of, IsSearch, IsSearchBut, IsNotLater, IsSound, HasTargets, waiting, weigh, ones, IsSeen, label_in, AreLabels, IsFresh}
+use Rattle.hr_graph.specs.Strong.{WayAlong, stay, go, mark_of, IsSearch, IsSearchBut, IsNotLater, IsSound, HasTargets, waiting, weigh, ones, IsSeen, label_in, AreLabels, IsFresh}
 use Rattle.hr_graph.proofs.Members.{contains_none}
 use Rattle.hr_graph.proofs.StrongSteps.{entered}
 use Rattle.hr_graph.proofs.FollowSteps.{sound_same, weigh_entered}
@@ -86,7 +86,7 @@ targets_within n edges rows are ends u v h =
     omega (arith, ap (λ e. e.1) edge.2, are.length_is)
 
 -- a way along the rows is a way along the edges
-pub reaches_by : (n : ℕ) (edges : List (ℕ × ℕ)) (rows : List (List ℕ)) (u w : ℕ) → AreRows n edges rows → Way rows u w → Reaches edges u w
+pub reaches_by : (n : ℕ) (edges : List (ℕ × ℕ)) (rows : List (List ℕ)) (u w : ℕ) → AreRows n edges rows → WayAlong rows u w → LeadsTo edges u w
 reaches_by n edges rows u w are (stay _) = here u
 reaches_by n edges rows u w are (go _ v _ target rest) = along u v w (are.sound u v target) (reaches_by n edges rows v w are rest)
 

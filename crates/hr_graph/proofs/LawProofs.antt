@@ -5,7 +5,7 @@ use Rattle.std.specs.List.Sorted.{IsStrictlyIncreasing}
 use Rattle.std.proofs.lemmas.Bool.{cases_lt}
 use Rattle.std.proofs.lemmas.List.{take_more, take_all, get_or_default}
 use Rattle.std.proofs.lemmas.List.Elements.{Contains-push, Contains-push_cases, Contains-append_left, Contains-append_right, Contains-append_cases}
-use Rattle.hr_graph.specs.Graph.{Reaches, here, along, Mutual, IsNext, IsInOrder, IsOrder, IsPlaced, IsNextComponent, AreInOrder, AreComponents}
+use Rattle.hr_graph.specs.Graph.{LeadsTo, here, along, Mutual, IsNext, IsInOrder, IsOrder, IsPlaced, IsNextComponent, AreInOrder, AreComponents}
 use Rattle.hr_graph.proofs.Members.{contains_none}
 
 at_next : {X : Type 0} (xs : List X) (k : ℕ) (d : X) → k < length xs → take (suc k) xs ≡ take k xs ++ get_or xs k d ∷ []
@@ -127,7 +127,7 @@ one_list nodes edges a b first second = elim (cases_lt (length a) (length b)) [
   ]
 ]
 
-way_on : (edges : List (ℕ × ℕ)) (u v w : ℕ) → Reaches edges u v → Reaches edges v w → Reaches edges u w
+way_on : (edges : List (ℕ × ℕ)) (u v w : ℕ) → LeadsTo edges u v → LeadsTo edges v w → LeadsTo edges u w
 way_on edges u v w (here _) second = second
 way_on edges u v w (along _ x _ edge rest) second = along u x w edge (way_on edges x v w rest second)
 

@@ -9,7 +9,7 @@ use Rattle.std.specs.declared.cmp.Ordering.TheVariants.{Less, Equal, Greater}
 use Rattle.std.proofs.lemmas.Bool.{cases_eq}
 use Rattle.std.proofs.lemmas.List.Elements.{Contains-get_or}
 use Rattle.hr_graph.specs.Rows.{AreRows}
-use Rattle.hr_graph.specs.Graph.{IsWithin, Reaches, here, along, Leads, IsFirstCycle}
+use Rattle.hr_graph.specs.Graph.{IsWithin, LeadsTo, here, along, LeadsThrough, IsFirstCycle}
 use Rattle.hr_graph.specs.Levels.{steps_of, AreSteps}
 use Rattle.hr_graph.specs.Cycle.{IsFirstOn, IsNotAfter, IsNearest, IsLeastThrough}
 use Rattle.hr_graph.proofs.LevelSteps.{HasSteps, ends_below, some_within}
@@ -34,14 +34,14 @@ chosen_more edges steps goal u [] last k v is best other = ((k, subst (λ w. IsB
 chosen_more edges steps goal u (w ∷ ws) last k v c best other = (c.0, c.1, chosen_more edges steps goal w ws last k v c.2 best other)
 
 -- a way to the goal is at least as long as the steps
-pub way_steps : (n : ℕ) (edges : List (ℕ × ℕ)) (goal : ℕ) (steps : List (Option ℕ)) (u : ℕ) (way : List ℕ) → AreSteps n edges goal steps → Leads edges u way goal → HasSteps steps u (length way + 1)
+pub way_steps : (n : ℕ) (edges : List (ℕ × ℕ)) (goal : ℕ) (steps : List (Option ℕ)) (u : ℕ) (way : List ℕ) → AreSteps n edges goal steps → LeadsThrough edges u way goal → HasSteps steps u (length way + 1)
 way_steps n edges goal steps u [] are edge = are.falls u goal 0 edge are.at_goal
 way_steps n edges goal steps u (w ∷ ws) are lead =
     let rest : HasSteps steps w (length ws + 1) = way_steps n edges goal steps w ws are lead.1 in
     let more : HasSteps steps u (rest.0 + 1) = are.falls u w rest.0 lead.0 rest.1 in
     (more.0, more.1, omega (arith, more.2, rest.2))
 
-pub reaches_steps : (n : ℕ) (edges : List (ℕ × ℕ)) (goal : ℕ) (steps : List (Option ℕ)) (u : ℕ) → AreSteps n edges goal steps → Reaches edges u goal → (j : ℕ) × (steps_of steps u ≡ Some j)
+pub reaches_steps : (n : ℕ) (edges : List (ℕ × ℕ)) (goal : ℕ) (steps : List (Option ℕ)) (u : ℕ) → AreSteps n edges goal steps → LeadsTo edges u goal → (j : ℕ) × (steps_of steps u ≡ Some j)
 reaches_steps n edges goal steps u are (here _) = (0, are.at_goal)
 reaches_steps n edges goal steps u are (along _ v _ edge rest) =
     let at : (j : ℕ) × (steps_of steps v ≡ Some j) = reaches_steps n edges goal steps v are rest in
@@ -71,15 +71,15 @@ not_greater o less greater = let clash : Less ≡ Greater = sym less ∙ greater
 
 -- Of two ways from u, of which the first goes by the nearest v: the first is not later if its rest isn't.
 pub first_step : (n : ℕ) (edges : List (ℕ × ℕ)) (goal : ℕ) (steps : List (Option ℕ)) (u k v : ℕ) (vs : List ℕ) (w : ℕ) (ws : List ℕ)
-    → AreSteps n edges goal steps → IsBest edges steps u k v → length vs + 1 ≡ k → Leads edges u (w ∷ ws) goal → length ws ≡ length vs
-    → (Leads edges v ws goal → slice_cmp nat_cmp vs ws ≢ Greater)
+    → AreSteps n edges goal steps → IsBest edges steps u k v → length vs + 1 ≡ k → LeadsThrough edges u (w ∷ ws) goal → length ws ≡ length vs
+    → (LeadsThrough edges v ws goal → slice_cmp nat_cmp vs ws ≢ Greater)
     → slice_cmp nat_cmp (v ∷ vs) (w ∷ ws) ≢ Greater
 first_step n edges goal steps u k v vs w ws are best long lead same rest =
     let far : HasSteps steps w (length ws + 1) = way_steps n edges goal steps w ws are lead.1 in
     elim (best.least w far.0 lead.0 far.1) [
       | inl lt ↦ absurd (omega (arith, far.2))
       | inr known ↦ elim (cases_eq v w) [
-        | inl e ↦ λ g. rest (subst (λ x. Leads edges x ws goal) (sym e) lead.1) (sym (equal_then v w (slice_cmp nat_cmp vs ws) e) ∙ g)
+        | inl e ↦ λ g. rest (subst (λ x. LeadsThrough edges x ws goal) (sym e) lead.1) (sym (equal_then v w (slice_cmp nat_cmp vs ws) e) ∙ g)
         | inr ne ↦ let lt : v < w = omega (arith, known.1) in not_greater _ (less_then v w (slice_cmp nat_cmp vs ws) lt)
       ]
     ]
@@ -87,23 +87,23 @@ first_step n edges goal steps u k v vs w ws are best long lead same rest =
 -- from a node that is not the goal: as long as its steps, and first of all ways of that length
 pub chosen_first : (n : ℕ) (edges : List (ℕ × ℕ)) (goal : ℕ) (steps : List (Option ℕ)) (u i : ℕ) (vs : List ℕ) (last k : ℕ)
     → AreSteps n edges goal steps → (u ≡ goal → ⊥) → steps_of steps u ≡ Some i → Chosen edges steps goal u vs last → IsBest edges steps last k goal
-    → (length vs + 1 ≡ i) × (Leads edges u vs goal × ((way : List ℕ) → Leads edges u way goal → length way ≡ length vs → slice_cmp nat_cmp vs way ≢ Greater))
+    → (length vs + 1 ≡ i) × (LeadsThrough edges u vs goal × ((way : List ℕ) → LeadsThrough edges u way goal → length way ≡ length vs → slice_cmp nat_cmp vs way ≢ Greater))
 chosen_first n edges goal steps u i [] last k are other at is best =
     let here : IsBest edges steps u k goal = subst (λ w. IsBest edges steps w k goal) (sym is) best in
     let none : k ≡ 0 = some_same k 0 (sym here.at ∙ are.at_goal) in
     (omega (arith, one_fewer n edges goal steps u i k goal are other at here), (here.edge, same_empty))
   where
-    same_empty : (way : List ℕ) → Leads edges u way goal → length way ≡ 0 → slice_cmp nat_cmp [] way ≢ Greater
+    same_empty : (way : List ℕ) → LeadsThrough edges u way goal → length way ≡ 0 → slice_cmp nat_cmp [] way ≢ Greater
     same_empty [] lead long = λ g. let clash : Equal ≡ Greater = g in cc
     same_empty (w ∷ ws) lead long = absurd (omega (arith, long))
 chosen_first n edges goal steps u i (v ∷ vs) last k are other at c best =
     let b : IsBest edges steps u c.0.0 v = c.0.1 in
-    let rest : (length vs + 1 ≡ c.0.0) × (Leads edges v vs goal × ((way : List ℕ) → Leads edges v way goal → length way ≡ length vs → slice_cmp nat_cmp vs way ≢ Greater))
+    let rest : (length vs + 1 ≡ c.0.0) × (LeadsThrough edges v vs goal × ((way : List ℕ) → LeadsThrough edges v way goal → length way ≡ length vs → slice_cmp nat_cmp vs way ≢ Greater))
     = chosen_first n edges goal steps v c.0.0 vs last k are c.1 b.at c.2 best in
     (omega (arith, one_fewer n edges goal steps u i c.0.0 v are other at b, rest.0), ((b.edge, rest.1.0), first_of_all b rest.0 rest.1.1))
   where
-    first_of_all : {j : ℕ} → IsBest edges steps u j v → length vs + 1 ≡ j → ((way : List ℕ) → Leads edges v way goal → length way ≡ length vs → slice_cmp nat_cmp vs way ≢ Greater)
-        → (way : List ℕ) → Leads edges u way goal → length way ≡ length (v ∷ vs) → slice_cmp nat_cmp (v ∷ vs) way ≢ Greater
+    first_of_all : {j : ℕ} → IsBest edges steps u j v → length vs + 1 ≡ j → ((way : List ℕ) → LeadsThrough edges v way goal → length way ≡ length vs → slice_cmp nat_cmp vs way ≢ Greater)
+        → (way : List ℕ) → LeadsThrough edges u way goal → length way ≡ length (v ∷ vs) → slice_cmp nat_cmp (v ∷ vs) way ≢ Greater
     first_of_all b long rest [] lead same = absurd (omega (arith, same))
     first_of_all {j} b long rest (w ∷ ws) lead same =
         let e : length ws ≡ length vs = omega (arith, same) in
@@ -112,49 +112,49 @@ chosen_first n edges goal steps u i (v ∷ vs) last k are other at c best =
 -- the cycle from the goal by the nearest is the first of the shortest
 pub chosen_cycle : (n : ℕ) (edges : List (ℕ × ℕ)) (goal : ℕ) (steps : List (Option ℕ)) (vs : List ℕ) (last k : ℕ)
     → AreSteps n edges goal steps → Chosen edges steps goal goal vs last → IsBest edges steps last k goal
-    → Leads edges goal vs goal × (((way : List ℕ) → Leads edges goal way goal → length vs ≤ length way)
-    × ((way : List ℕ) → Leads edges goal way goal → length way ≡ length vs → slice_cmp nat_cmp vs way ≢ Greater))
+    → LeadsThrough edges goal vs goal × (((way : List ℕ) → LeadsThrough edges goal way goal → length vs ≤ length way)
+    × ((way : List ℕ) → LeadsThrough edges goal way goal → length way ≡ length vs → slice_cmp nat_cmp vs way ≢ Greater))
 chosen_cycle n edges goal steps [] last k are is best =
     ((subst (λ w. IsBest edges steps w k goal) (sym is) best).edge, ((λ way lead. omega arith), same_empty))
   where
-    same_empty : (way : List ℕ) → Leads edges goal way goal → length way ≡ 0 → slice_cmp nat_cmp [] way ≢ Greater
+    same_empty : (way : List ℕ) → LeadsThrough edges goal way goal → length way ≡ 0 → slice_cmp nat_cmp [] way ≢ Greater
     same_empty [] lead long = λ g. let clash : Equal ≡ Greater = g in cc
     same_empty (w ∷ ws) lead long = absurd (omega (arith, long))
 chosen_cycle n edges goal steps (v ∷ vs) last k are c best =
     let b : IsBest edges steps goal c.0.0 v = c.0.1 in
-    let rest : (length vs + 1 ≡ c.0.0) × (Leads edges v vs goal × ((way : List ℕ) → Leads edges v way goal → length way ≡ length vs → slice_cmp nat_cmp vs way ≢ Greater))
+    let rest : (length vs + 1 ≡ c.0.0) × (LeadsThrough edges v vs goal × ((way : List ℕ) → LeadsThrough edges v way goal → length way ≡ length vs → slice_cmp nat_cmp vs way ≢ Greater))
     = chosen_first n edges goal steps v c.0.0 vs last k are c.1 b.at c.2 best in
     ((b.edge, rest.1.0), (shortest b rest.0, first_of_all b rest.0 rest.1.1))
   where
-    shortest : {j : ℕ} → IsBest edges steps goal j v → length vs + 1 ≡ j → (way : List ℕ) → Leads edges goal way goal → length (v ∷ vs) ≤ length way
+    shortest : {j : ℕ} → IsBest edges steps goal j v → length vs + 1 ≡ j → (way : List ℕ) → LeadsThrough edges goal way goal → length (v ∷ vs) ≤ length way
     shortest {j} b long [] lead = elim (b.least goal 0 lead are.at_goal) [ inl lt ↦ absurd (omega (arith, lt)) | inr same ↦ absurd (omega (arith, same.0, long)) ]
     shortest {j} b long (w ∷ ws) lead =
         let far : HasSteps steps w (length ws + 1) = way_steps n edges goal steps w ws are lead.1 in
         elim (b.least w far.0 lead.0 far.1) [ inl lt ↦ omega (arith, lt, far.2, long) | inr same ↦ omega (arith, same.0, far.2, long) ]
 
-    first_of_all : {j : ℕ} → IsBest edges steps goal j v → length vs + 1 ≡ j → ((way : List ℕ) → Leads edges v way goal → length way ≡ length vs → slice_cmp nat_cmp vs way ≢ Greater)
-        → (way : List ℕ) → Leads edges goal way goal → length way ≡ length (v ∷ vs) → slice_cmp nat_cmp (v ∷ vs) way ≢ Greater
+    first_of_all : {j : ℕ} → IsBest edges steps goal j v → length vs + 1 ≡ j → ((way : List ℕ) → LeadsThrough edges v way goal → length way ≡ length vs → slice_cmp nat_cmp vs way ≢ Greater)
+        → (way : List ℕ) → LeadsThrough edges goal way goal → length way ≡ length (v ∷ vs) → slice_cmp nat_cmp (v ∷ vs) way ≢ Greater
     first_of_all b long rest [] lead same = absurd (omega (arith, same))
     first_of_all {j} b long rest (w ∷ ws) lead same =
         let e : length ws ≡ length vs = omega (arith, same) in
         first_step n edges goal steps goal j v vs w ws are b long lead e (λ l. rest ws l e)
 
 -- a way round is a way along the edges
-leads_reaches : (edges : List (ℕ × ℕ)) (u : ℕ) (way : List ℕ) (last : ℕ) → Leads edges u way last → (v : ℕ) × Contains edges (u, v) × Reaches edges v last
+leads_reaches : (edges : List (ℕ × ℕ)) (u : ℕ) (way : List ℕ) (last : ℕ) → LeadsThrough edges u way last → (v : ℕ) × Contains edges (u, v) × LeadsTo edges v last
 leads_reaches edges u [] last edge = (last, edge, here last)
 leads_reaches edges u (w ∷ ws) last lead =
-    let rest : (v : ℕ) × Contains edges (w, v) × Reaches edges v last = leads_reaches edges w ws last lead.1 in
+    let rest : (v : ℕ) × Contains edges (w, v) × LeadsTo edges v last = leads_reaches edges w ws last lead.1 in
     (w, lead.0, along w rest.0 last rest.1 rest.2)
 
 pub first_cycle : (n : ℕ) (edges : List (ℕ × ℕ)) (goal : ℕ) (steps : List (Option ℕ)) (vs : List ℕ) (last k : ℕ)
     → IsFirstOn edges goal → AreSteps n edges goal steps → Chosen edges steps goal goal vs last → IsBest edges steps last k goal → IsFirstCycle edges goal vs
 first_cycle n edges goal steps vs last k first are c best =
-    let all : Leads edges goal vs goal × (((way : List ℕ) → Leads edges goal way goal → length vs ≤ length way)
-    × ((way : List ℕ) → Leads edges goal way goal → length way ≡ length vs → slice_cmp nat_cmp vs way ≢ Greater)) = chosen_cycle n edges goal steps vs last k are c best in
+    let all : LeadsThrough edges goal vs goal × (((way : List ℕ) → LeadsThrough edges goal way goal → length vs ≤ length way)
+    × ((way : List ℕ) → LeadsThrough edges goal way goal → length way ≡ length vs → slice_cmp nat_cmp vs way ≢ Greater)) = chosen_cycle n edges goal steps vs last k are c best in
     record {
       cycle = all.0;
       begins = λ other way lead.
-          let on : (v : ℕ) × Contains edges (other, v) × Reaches edges v other = leads_reaches edges other way other lead in
+          let on : (v : ℕ) × Contains edges (other, v) × LeadsTo edges v other = leads_reaches edges other way other lead in
           first.least other on.0 on.1 on.2;
       shortest = all.1.0;
       earliest = all.1.1;

@@ -8,11 +8,11 @@ use Rattle.std.proofs.lemmas.List.Elements.{Contains-push, Contains-push_cases, 
 use Rattle.std.proofs.lemmas.List.Quantifiers.{all_pairs_push}
 use Rattle.hr_graph.specs.declared.strong.Mark.{Mark}
 use Rattle.hr_graph.specs.declared.strong.Mark.TheVariants.{Unseen, Open, Closed}
-use Rattle.hr_graph.specs.Strong.{IsTarget, Way, stay, go, mark_of, ComesBack, IsPath, AreStarts, ArePending, IsSettled, IsNotLater, AreClosed, IsSearch, IsSearchBut, closing, waiting}
+use Rattle.hr_graph.specs.Strong.{IsSuccessor, WayAlong, stay, go, mark_of, ComesBack, IsPath, AreStarts, ArePending, IsSettled, IsNotLater, AreClosed, IsSearch, IsSearchBut, closed_from, waiting}
 use Rattle.hr_graph.proofs.Members.{contains_none, contains_more, contains_kept}
 
 -- ways join
-pub way_on : {rows : List (List ℕ)} (u v w : ℕ) → Way rows u v → Way rows v w → Way rows u w
+pub way_on : {rows : List (List ℕ)} (u v w : ℕ) → WayAlong rows u v → WayAlong rows v w → WayAlong rows u w
 way_on u v w (stay _) second = second
 way_on u v w (go _ next _ edge rest) second = go u next w edge (way_on next v w rest second)
 
@@ -134,26 +134,26 @@ enter_pending : (rows : List (List ℕ)) (path : List ℕ) (pending : List (ℕ 
 enter_pending rows path pending v waits = record {
   edge = λ p w h. elim (Contains-append_cases pending (waiting (length path) (get_or rows v [])) (p, w) h) [
     | inl old ↦
-        let known : (p < length path) × IsTarget rows (get_or path p 0) w = waits.edge p w old in
-        (omega (arith, known.0, length_push path v), subst (λ u. IsTarget rows u w) (sym (get_or_append_left path (v ∷ []) 0 p known.0)) known.1)
+        let known : (p < length path) × IsSuccessor rows (get_or path p 0) w = waits.edge p w old in
+        (omega (arith, known.0, length_push path v), subst (λ u. IsSuccessor rows u w) (sym (get_or_append_left path (v ∷ []) 0 p known.0)) known.1)
     | inr new ↦
         let known : (p ≡ length path) × Contains (get_or rows v []) w = in_waiting (length path) (get_or rows v []) (p, w) new in
-        (omega (arith, known.0, length_push path v), subst (λ u. IsTarget rows u w) (sym (get_or_push path v 0 p (sym known.0))) known.1)
+        (omega (arith, known.0, length_push path v), subst (λ u. IsSuccessor rows u w) (sym (get_or_push path v 0 p (sym known.0))) known.1)
   ];
   rise = pairs_joined (λ e f. e.0 ≤ f.0) pending (waiting (length path) (get_or rows v [])) waits.rise (same_place (length path) (get_or rows v []))
       (λ e f old new. let a : e.0 < length path = (waits.edge e.0 e.1 old).0 in let b : f.0 ≡ length path = (in_waiting (length path) (get_or rows v []) f new).0 in omega arith);
 }
 
 enter_way : (rows : List (List ℕ)) (path starts : List ℕ) (v : ℕ)
-    → ((p q : ℕ) → p < length path → q < length path → ComesBack starts p q → Way rows (get_or path p 0) (get_or path q 0))
-    → ((q : ℕ) → q < length path → Way rows (get_or path q 0) v)
-    → (p q : ℕ) → p < length (path ++ v ∷ []) → q < length (path ++ v ∷ []) → ComesBack (starts ++ length path ∷ []) p q → Way rows (get_or (path ++ v ∷ []) p 0) (get_or (path ++ v ∷ []) q 0)
+    → ((p q : ℕ) → p < length path → q < length path → ComesBack starts p q → WayAlong rows (get_or path p 0) (get_or path q 0))
+    → ((q : ℕ) → q < length path → WayAlong rows (get_or path q 0) v)
+    → (p q : ℕ) → p < length (path ++ v ∷ []) → q < length (path ++ v ∷ []) → ComesBack (starts ++ length path ∷ []) p q → WayAlong rows (get_or (path ++ v ∷ []) p 0) (get_or (path ++ v ∷ []) q 0)
 enter_way rows path starts v way reaches p q p_in q_in back =
-    at_push (λ p u. ComesBack (starts ++ length path ∷ []) p q → Way rows u (get_or (path ++ v ∷ []) q 0)) path v 0
-    (λ p p_lt. at_push (λ q w. ComesBack (starts ++ length path ∷ []) p q → Way rows (get_or path p 0) w) path v 0
+    at_push (λ p u. ComesBack (starts ++ length path ∷ []) p q → WayAlong rows u (get_or (path ++ v ∷ []) q 0)) path v 0
+    (λ p p_lt. at_push (λ q w. ComesBack (starts ++ length path ∷ []) p q → WayAlong rows (get_or path p 0) w) path v 0
     (λ q q_lt back. way p q p_lt q_lt (comes_back_fewer starts (length path) p q back))
     (λ _. reaches p p_lt) q q_in)
-    (at_push (λ q w. ComesBack (starts ++ length path ∷ []) (length path) q → Way rows v w) path v 0
+    (at_push (λ q w. ComesBack (starts ++ length path ∷ []) (length path) q → WayAlong rows v w) path v 0
     (λ q q_lt back. let lt : length path < length path = back (length path) (Contains-push starts (length path)) q_lt in absurd (omega arith))
     (λ _. stay v) q q_in)
     p p_in back
@@ -193,7 +193,7 @@ enter_closed rows marks closed v place shut within unseen =
 
 pub entered : (rows : List (List ℕ)) (marks : List Mark) (path starts : List ℕ) (pending : List (ℕ × ℕ)) (closed v : ℕ)
     → IsSearchBut v rows marks path starts pending closed → v < length marks → mark_of marks v ≡ Unseen
-    → ((q : ℕ) → q < length path → Way rows (get_or path q 0) v)
+    → ((q : ℕ) → q < length path → WayAlong rows (get_or path q 0) v)
     → IsSearch rows (set marks v (Open (length path))) (path ++ v ∷ []) (starts ++ length path ∷ []) (pending ++ waiting (length path) (get_or rows v [])) closed
 entered rows marks path starts pending closed v keeps within unseen reaches = record {
   on_path = enter_path marks path v keeps.on_path within unseen;
@@ -201,7 +201,7 @@ entered rows marks path starts pending closed v keeps within unseen reaches = re
   way = enter_way rows path starts v keeps.way reaches;
   waits = enter_pending rows path pending v keeps.waits;
   edge = λ p w p_in target. at_push
-      (λ p u. IsTarget rows u w → Contains (pending ++ waiting (length path) (get_or rows v [])) (p, w) ⊎ IsSettled (starts ++ length path ∷ []) p (mark_of (set marks v (Open (length path))) w)) path v 0
+      (λ p u. IsSuccessor rows u w → Contains (pending ++ waiting (length path) (get_or rows v [])) (p, w) ⊎ IsSettled (starts ++ length path ∷ []) p (mark_of (set marks v (Open (length path))) w)) path v 0
       (λ p p_lt target. elim (keeps.edge p w p_lt target) [
         | inl known ↦ elim known [
           | inl pends ↦ inl (Contains-append_left pending (waiting (length path) (get_or rows v [])) (p, w) pends)
@@ -269,7 +269,7 @@ passed rows marks path starts pending closed v label keeps is = record {
 -- the target is open: the groups behind its own are joined with it
 pub joined : (rows : List (List ℕ)) (marks : List Mark) (path starts fewer : List ℕ) (pending : List (ℕ × ℕ)) (closed v p q : ℕ)
     → IsSearchBut v rows marks path starts pending closed → mark_of marks v ≡ Open q
-    → p < length path → IsTarget rows (get_or path p 0) v → ((s : ℕ) → Contains starts s → s ≤ p)
+    → p < length path → IsSuccessor rows (get_or path p 0) v → ((s : ℕ) → Contains starts s → s ≤ p)
     → ((s : ℕ) → Contains fewer s → Contains starts s) → ((s : ℕ) → Contains fewer s → s ≤ q)
     → ((s : ℕ) → Contains starts s → s ≤ q → Contains fewer s) → AllPairs (λ s t. s < t) fewer
     → IsSearch rows marks path fewer pending closed
@@ -291,10 +291,10 @@ joined rows marks path starts fewer pending closed v p q keeps is p_in target la
       };
       way = λ a b a_in b_in back. elim (cases_lt q a) [
         | inl behind ↦
-            let down : Way rows (get_or path a 0) (get_or path p 0) = keeps.way a p a_in p_in (λ s in' lt. absurd (let le : s ≤ p = last s in' in omega arith)) in
-            let up : Way rows (get_or path q 0) (get_or path b 0) = keeps.way q b at.0 b_in
+            let down : WayAlong rows (get_or path a 0) (get_or path p 0) = keeps.way a p a_in p_in (λ s in' lt. absurd (let le : s ≤ p = last s in' in omega arith)) in
+            let up : WayAlong rows (get_or path q 0) (get_or path b 0) = keeps.way q b at.0 b_in
             (λ s in' lt. elim (cases_lt q s) [ inl ok ↦ ok | inr le ↦ absurd (let far : a < s = back s (all s in' le) lt in omega arith) ]) in
-            way_on (get_or path a 0) (get_or path p 0) (get_or path b 0) down (go (get_or path p 0) v (get_or path b 0) target (subst (λ u. Way rows u (get_or path b 0)) at.1 up))
+            way_on (get_or path a 0) (get_or path p 0) (get_or path b 0) down (go (get_or path p 0) v (get_or path b 0) target (subst (λ u. WayAlong rows u (get_or path b 0)) at.1 up))
         | inr here ↦ keeps.way a b a_in b_in
             (λ s in' lt. elim (cases_lt a s) [ inl ok ↦ ok | inr le ↦ absurd (let far : a < s = back s (all s in' (omega arith)) lt in omega arith) ])
       ];
@@ -311,13 +311,13 @@ joined rows marks path starts fewer pending closed v p q keeps is p_in target la
 
 -- ---- the last group is closed
 
-pub at_place : (label start p : ℕ) → p < start → closing label start (Open p) ≡ Open p
+pub at_place : (label start p : ℕ) → p < start → closed_from label start (Open p) ≡ Open p
 at_place label start p lt = grind (arith, nat_tests)
 
-pub past_place : (label start p : ℕ) → start ≤ p → closing label start (Open p) ≡ Closed label
+pub past_place : (label start p : ℕ) → start ≤ p → closed_from label start (Open p) ≡ Closed label
 past_place label start p le = grind (arith, nat_tests)
 
-closing_open : (label start p : ℕ) (m : Mark) → closing label start m ≡ Open p → (m ≡ Open p) × (p < start)
+closing_open : (label start p : ℕ) (m : Mark) → closed_from label start m ≡ Open p → (m ≡ Open p) × (p < start)
 closing_open label start p Unseen is = let clash : Unseen ≡ Open p = is in cc
 closing_open label start p (Open q) is = elim (cases_lt q start) [
   | inl lt ↦ let same : q ≡ p = place_is q p (sym (at_place label start q lt) ∙ is) in (ap Open same, subst (λ p. p < start) same lt)
@@ -325,7 +325,7 @@ closing_open label start p (Open q) is = elim (cases_lt q start) [
 ]
 closing_open label start p (Closed other) is = let clash : Closed other ≡ Open p = is in cc
 
-closing_closed : (label start k : ℕ) (m : Mark) → closing label start m ≡ Closed k → (m ≡ Closed k) ⊎ ((k ≡ label) × ((p : ℕ) × (m ≡ Open p) × (start ≤ p)))
+closing_closed : (label start k : ℕ) (m : Mark) → closed_from label start m ≡ Closed k → (m ≡ Closed k) ⊎ ((k ≡ label) × ((p : ℕ) × (m ≡ Open p) × (start ≤ p)))
 closing_closed label start k Unseen is = let clash : Unseen ≡ Closed k = is in cc
 closing_closed label start k (Open q) is = elim (cases_lt q start) [
   | inl lt ↦ let clash : Open q ≡ Closed k = sym (at_place label start q lt) ∙ is in cc
@@ -334,7 +334,7 @@ closing_closed label start k (Open q) is = elim (cases_lt q start) [
 closing_closed label start k (Closed other) is = inl is
 
 -- an edge of an open node that stays open
-closing_settled : (label start p : ℕ) (starts fewer : List ℕ) (m : Mark) → ((s : ℕ) → Contains fewer s → Contains starts s) → IsSettled starts p m → IsSettled fewer p (closing label start m)
+closing_settled : (label start p : ℕ) (starts fewer : List ℕ) (m : Mark) → ((s : ℕ) → Contains fewer s → Contains starts s) → IsSettled starts p m → IsSettled fewer p (closed_from label start m)
 closing_settled label start p starts fewer Unseen sub h = h
 closing_settled label start p starts fewer (Open q) sub h = elim (cases_lt q start) [
   | inl lt ↦ subst (λ m. IsSettled fewer p m) (sym (at_place label start q lt)) (λ s in' lt. h s (sub s in') lt)
@@ -343,13 +343,13 @@ closing_settled label start p starts fewer (Open q) sub h = elim (cases_lt q sta
 closing_settled label start p starts fewer (Closed other) sub h = tt
 
 -- an edge of a node that was closed before
-closing_not_later : (label start k : ℕ) (m : Mark) → IsNotLater k m → IsNotLater k (closing label start m)
+closing_not_later : (label start k : ℕ) (m : Mark) → IsNotLater k m → IsNotLater k (closed_from label start m)
 closing_not_later label start k Unseen h = h
 closing_not_later label start k (Open q) h = absurd h
 closing_not_later label start k (Closed other) h = h
 
 -- an edge of a node that is closed now
-closing_now : (label start p : ℕ) (starts : List ℕ) (m : Mark) → Contains starts start → start ≤ p → ((other : ℕ) → m ≡ Closed other → other < label) → IsSettled starts p m → IsNotLater label (closing label start m)
+closing_now : (label start p : ℕ) (starts : List ℕ) (m : Mark) → Contains starts start → start ≤ p → ((other : ℕ) → m ≡ Closed other → other < label) → IsSettled starts p m → IsNotLater label (closed_from label start m)
 closing_now label start p starts Unseen in' at below h = h
 closing_now label start p starts (Open q) in' at below h = elim (cases_lt q start) [
   | inl lt ↦ absurd (let far : p < start = h start in' lt in omega arith)
@@ -357,7 +357,7 @@ closing_now label start p starts (Open q) in' at below h = elim (cases_lt q star
 ]
 closing_now label start p starts (Closed other) in' at below h = let lt : other < label = below other refl in omega arith
 
-shut_path : (marks after : List Mark) (path : List ℕ) (label start : ℕ) → start ≤ length path → IsPath marks path → ((v : ℕ) → mark_of after v ≡ closing label start (mark_of marks v)) → IsPath after (take start path)
+shut_path : (marks after : List Mark) (path : List ℕ) (label start : ℕ) → start ≤ length path → IsPath marks path → ((v : ℕ) → mark_of after v ≡ closed_from label start (mark_of marks v)) → IsPath after (take start path)
 shut_path marks after path label start fits on each = record {
   place = λ v p is.
       let known : (mark_of marks v ≡ Open p) × (p < start) = closing_open label start p (mark_of marks v) (sym (each v) ∙ is) in
@@ -365,13 +365,13 @@ shut_path marks after path label start fits on each = record {
       (omega (arith, length-take-le start path fits, known.1), get_or-take start path p 0 known.1 ∙ at.1);
   mark = λ p p_in.
       let lt : p < start = omega (arith, length-take-le start path fits) in
-      ap (mark_of after) (get_or-take start path p 0 lt) ∙ each (get_or path p 0) ∙ ap (closing label start) (on.mark p (omega arith)) ∙ at_place label start p lt;
+      ap (mark_of after) (get_or-take start path p 0 lt) ∙ each (get_or path p 0) ∙ ap (closed_from label start) (on.mark p (omega arith)) ∙ at_place label start p lt;
 }
 
 pub shut : (rows : List (List ℕ)) (marks after : List Mark) (path fewer : List ℕ) (pending : List (ℕ × ℕ)) (label start : ℕ)
     → IsSearch rows marks path (fewer ++ start ∷ []) pending label
     → ((p v : ℕ) → Contains pending (p, v) → p < start)
-    → ((v : ℕ) → mark_of after v ≡ closing label start (mark_of marks v))
+    → ((v : ℕ) → mark_of after v ≡ closed_from label start (mark_of marks v))
     → IsSearch rows after (take start path) fewer pending (label + 1)
 shut rows marks after path fewer pending label start keeps early each =
     let starts : List ℕ = fewer ++ start ∷ [] in
@@ -396,16 +396,16 @@ shut rows marks after path fewer pending label start keeps early each =
             ];
       };
       way = λ p q p_in q_in back.
-          subst (λ u. Way rows u (get_or (take start path) q 0)) (sym (stays p (omega arith)))
-          (subst (λ w. Way rows (get_or path p 0) w) (sym (stays q (omega arith)))
+          subst (λ u. WayAlong rows u (get_or (take start path) q 0)) (sym (stays p (omega arith)))
+          (subst (λ w. WayAlong rows (get_or path p 0) w) (sym (stays q (omega arith)))
           (keeps.way p q (omega arith) (omega arith) (contains_more (λ s. q < s → p < s) fewer start back (λ _. omega arith))));
       waits = record {
         edge = λ p v h.
             let lt : p < start = early p v h in
-            (omega arith, subst (λ u. IsTarget rows u v) (sym (stays p lt)) (keeps.waits.edge p v h).1);
+            (omega arith, subst (λ u. IsSuccessor rows u v) (sym (stays p lt)) (keeps.waits.edge p v h).1);
         rise = keeps.waits.rise;
       };
-      edge = λ p v p_in target. elim (keeps.edge p v (omega arith) (subst (λ u. IsTarget rows u v) (stays p (omega arith)) target)) [
+      edge = λ p v p_in target. elim (keeps.edge p v (omega arith) (subst (λ u. IsSuccessor rows u v) (stays p (omega arith)) target)) [
         | inl pends ↦ inl pends
         | inr settled ↦ inr (subst (λ m. IsSettled fewer p m) (sym (each v)) (closing_settled label start p starts fewer (mark_of marks v) sub settled))
       ];
@@ -414,8 +414,8 @@ shut rows marks after path fewer pending label start keeps early each =
           | inl old ↦ closing_not_later label start k (mark_of marks v) (keeps.shut.edge u v k old target)
           | inr new ↦
               let at : (new.1.0 < length path) × (get_or path new.1.0 0 ≡ u) = keeps.on_path.place u new.1.0 new.1.1 in
-              subst (λ k. IsNotLater k (closing label start (mark_of marks v))) (sym new.0)
-              (elim (keeps.edge new.1.0 v at.0 (subst (λ w. IsTarget rows w v) (sym at.1) target)) [
+              subst (λ k. IsNotLater k (closed_from label start (mark_of marks v))) (sym new.0)
+              (elim (keeps.edge new.1.0 v at.0 (subst (λ w. IsSuccessor rows w v) (sym at.1) target)) [
                 | inl pends ↦ absurd (let lt : new.1.0 < start = early new.1.0 v pends in omega (arith, new.1.2))
                 | inr settled ↦ closing_now label start new.1.0 starts (mark_of marks v) here new.1.2 (λ other is. keeps.shut.below v other is) settled
               ])
@@ -430,7 +430,7 @@ shut rows marks after path fewer pending label start keeps early each =
             | inr v_new ↦
                 let au : (u_new.1.0 < length path) × (get_or path u_new.1.0 0 ≡ u) = keeps.on_path.place u u_new.1.0 u_new.1.1 in
                 let av : (v_new.1.0 < length path) × (get_or path v_new.1.0 0 ≡ v) = keeps.on_path.place v v_new.1.0 v_new.1.1 in
-                subst (λ u. Way rows u v) au.1 (subst (λ v. Way rows (get_or path u_new.1.0 0) v) av.1
+                subst (λ u. WayAlong rows u v) au.1 (subst (λ v. WayAlong rows (get_or path u_new.1.0 0) v) av.1
                 (keeps.way u_new.1.0 v_new.1.0 au.0 av.0 (contains_more (λ s. v_new.1.0 < s → u_new.1.0 < s) fewer start (λ s h lt. let far : s < start = before s h in absurd (omega (arith, v_new.1.2))) (λ lt. absurd (omega (arith, v_new.1.2))))))
           ]
         ];

@@ -4,7 +4,7 @@ use Rattle.std.specs.Prelude.{Contains, All, slice_get, IfNone}
 use Rattle.std.proofs.lemmas.Bool.{cases_eq}
 use Rattle.std.proofs.lemmas.List.Elements.{Contains-push, Contains-push_cases, Contains-append_left, Contains-append_right, Contains-append_cases, All-cons, All-nil}
 use Rattle.hr_graph.specs.declared.module_order.ImportEdge.{ImportEdge}
-use Rattle.hr_graph.specs.Graph.{IsWithin, IsReady, IsInOrder, IsOrder, Leads}
+use Rattle.hr_graph.specs.Graph.{IsWithin, MayCome, IsInOrder, IsOrder, LeadsThrough}
 use Rattle.hr_graph.specs.Cycle.{IsNumbered, IsLeastThrough}
 use Rattle.hr_graph.specs.Modules.{AreEdges, ShowsCycle, HasNoRepeat, IsReadingOrder}
 use Rattle.hr_graph.proofs.Members.{contains_none}
@@ -25,7 +25,7 @@ contains_or (y ∷ xs) x = elim (cases_eq y x) [
 ]
 
 whole_below : (nodes : ℕ) (edges : List (ℕ × ℕ)) (numbers order : List ℕ) → IsWithin nodes edges → ((u v : ℕ) → Contains edges (u, v) → get_or numbers v 0 < get_or numbers u 0)
-    → ((node : ℕ) → IsReady nodes edges order node → ⊥) → (bound u : ℕ) → get_or numbers u 0 < bound → u < nodes → Contains order u
+    → ((node : ℕ) → MayCome nodes edges order node → ⊥) → (bound u : ℕ) → get_or numbers u 0 < bound → u < nodes → Contains order u
 whole_below nodes edges numbers order ends falls none zero u lt within = absurd (omega (arith, lt))
 whole_below nodes edges numbers order ends falls none (suc bound) u lt within = elim (contains_or order u) [
   | inl in' ↦ in'
@@ -38,7 +38,7 @@ whole_below nodes edges numbers order ends falls none (suc bound) u lt within = 
   }))
 ]
 
-pub whole_order : (nodes : ℕ) (edges : List (ℕ × ℕ)) (order : List ℕ) → IsWithin nodes edges → IsNumbered edges → IsInOrder nodes edges order → ((node : ℕ) → IsReady nodes edges order node → ⊥) → IsOrder nodes edges order
+pub whole_order : (nodes : ℕ) (edges : List (ℕ × ℕ)) (order : List ℕ) → IsWithin nodes edges → IsNumbered edges → IsInOrder nodes edges order → ((node : ℕ) → MayCome nodes edges order node → ⊥) → IsOrder nodes edges order
 whole_order nodes edges order ends numbered each none = record {
   each = each;
   whole = λ u within. whole_below nodes edges numbered.0 order ends numbered.1 none (get_or numbered.0 u 0 + 1) u (omega arith) within;
@@ -63,7 +63,7 @@ edges_within_by names (one ∷ imports) (e ∷ edges) ends are =
 pub edges_within : (names : List (List ℕ)) (imports : List ImportEdge) (edges : List (ℕ × ℕ)) → All (λ one. one.from < length names) imports → AreEdges names imports edges → IsWithin (length names) edges
 edges_within names imports edges ends are = edges_within_by names imports edges ends are
 
-leads_within : (n : ℕ) (edges : List (ℕ × ℕ)) (u : ℕ) (way : List ℕ) (last : ℕ) → IsWithin n edges → Leads edges u way last → (u < n) × All (λ v. v < n) way
+leads_within : (n : ℕ) (edges : List (ℕ × ℕ)) (u : ℕ) (way : List ℕ) (last : ℕ) → IsWithin n edges → LeadsThrough edges u way last → (u < n) × All (λ v. v < n) way
 leads_within n edges u [] last ends edge = ((ends_below n edges u last ends edge).0, All-nil (λ v. v < n))
 leads_within n edges u (v ∷ vs) last ends lead =
     let rest : (v < n) × All (λ w. w < n) vs = leads_within n edges v vs last ends lead.1 in
@@ -86,7 +86,7 @@ cycle_shown names edges first (node ∷ rest) shown least is = record {
 
 pub reading_order : (names : List (List ℕ)) (imports : List ImportEdge) (edges given again : List (ℕ × ℕ)) (cycle : Option (List (List ℕ))) (order : List ℕ)
     → HasNoRepeat names → All (λ one. one.from < length names) imports → AreEdges names imports edges → given ≡ edges → again ≡ edges
-    → IfNone cycle (IsNumbered given) → cycle ≡ None → IsInOrder (length names) again order → ((node : ℕ) → IsReady (length names) again order node → ⊥)
+    → IfNone cycle (IsNumbered given) → cycle ≡ None → IsInOrder (length names) again order → ((node : ℕ) → MayCome (length names) again order node → ⊥)
     → IsReadingOrder names imports order
 reading_order names imports edges given again cycle order distinct ends are same other none is each all =
     let numbered : IsNumbered edges = subst IsNumbered same (subst (λ o. IfNone o (IsNumbered given)) is none) in
@@ -95,5 +95,5 @@ reading_order names imports edges given again cycle order distinct ends are same
       edges = edges;
       edges_are = are;
       in_order = whole_order (length names) edges order (edges_within names imports edges ends are) numbered
-          (subst (λ es. IsInOrder (length names) es order) other each) (subst (λ es. (node : ℕ) → IsReady (length names) es order node → ⊥) other all);
+          (subst (λ es. IsInOrder (length names) es order) other each) (subst (λ es. (node : ℕ) → MayCome (length names) es order node → ⊥) other all);
     }

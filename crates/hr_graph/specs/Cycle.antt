@@ -1,6 +1,6 @@
 -- What the search for the first cycle finds.
 use Rattle.std.specs.Prelude.{◌≡◌, ◌⊎◌, ◌≤◌, ◌<◌, ◌∷◌, ℕ, List, [], Option, Some, None, min, slice_index, Contains, IfSome}
-use Rattle.hr_graph.specs.Graph.{Reaches, IsFirstCycle}
+use Rattle.hr_graph.specs.Graph.{LeadsTo, IsFirstCycle}
 use Rattle.hr_graph.specs.Levels.{steps_of}
 
 -- the nodes can be numbered such that each edge leads to a lesser number
@@ -11,8 +11,8 @@ IsNumbered edges = (numbers : List ℕ) × ((u v : ℕ) → Contains edges (u, v
 pub record IsFirstOn (edges : List (ℕ × ℕ)) (first : ℕ) : Type 0 where
   pub target : ℕ
   pub edge : Contains edges (first, target)
-  pub back : Reaches edges target first
-  pub least : (u v : ℕ) → Contains edges (u, v) → Reaches edges v u → first ≤ u
+  pub back : LeadsTo edges target first
+  pub least : (u v : ℕ) → Contains edges (u, v) → LeadsTo edges v u → first ≤ u
 
 -- of the edges, those between nodes of one number have this least beginning
 abbrev pub IsFirstEqual : List ℕ → List (ℕ × ℕ) → Option ℕ → Type 0

@@ -14,24 +14,24 @@ abbrev pub turned : List (ℕ × ℕ) → List (ℕ × ℕ)
 turned edges = map (λ e. (e.1, e.0)) edges
 
 -- w can be reached from u along edges
-pub data Reaches (edges : List (ℕ × ℕ)) : ℕ → ℕ → Type 0 where
-  here : (u : ℕ) → Reaches edges u u
-  along : (u v w : ℕ) → Contains edges (u, v) → Reaches edges v w → Reaches edges u w
+pub data LeadsTo (edges : List (ℕ × ℕ)) : ℕ → ℕ → Type 0 where
+  here : (u : ℕ) → LeadsTo edges u u
+  along : (u v w : ℕ) → Contains edges (u, v) → LeadsTo edges v w → LeadsTo edges u w
 
 -- the two nodes lie in one strong component
 abbrev pub Mutual : List (ℕ × ℕ) → ℕ → ℕ → Type 0
-Mutual edges u v = Reaches edges u v × Reaches edges v u
+Mutual edges u v = LeadsTo edges u v × LeadsTo edges v u
 
 -- after those of the list the node may come: it points to no others
-pub record IsReady (nodes : ℕ) (edges : List (ℕ × ℕ)) (before : List ℕ) (node : ℕ) : Type 0 where
+pub record MayCome (nodes : ℕ) (edges : List (ℕ × ℕ)) (before : List ℕ) (node : ℕ) : Type 0 where
   pub below : node < nodes
   pub fresh : Contains before node → ⊥
   pub after : (target : ℕ) → Contains edges (node, target) → Contains before target
 
 -- the least node that may come
 pub record IsNext (nodes : ℕ) (edges : List (ℕ × ℕ)) (before : List ℕ) (node : ℕ) : Type 0 where
-  pub ready : IsReady nodes edges before node
-  pub least : (other : ℕ) → IsReady nodes edges before other → node ≤ other
+  pub ready : MayCome nodes edges before node
+  pub least : (other : ℕ) → MayCome nodes edges before other → node ≤ other
 
 -- each node of the list is the least that may come after those before it
 abbrev pub IsInOrder : ℕ → List (ℕ × ℕ) → List ℕ → Type 0
@@ -44,17 +44,17 @@ pub record IsOrder (nodes : ℕ) (edges : List (ℕ × ℕ)) (order : List ℕ) 
   pub whole : (node : ℕ) → node < nodes → Contains order node
 
 -- from u along edges through the nodes of the list, in turn, to the last one
-abbrev pub Leads : List (ℕ × ℕ) → ℕ → List ℕ → ℕ → Type 0
-Leads edges u [] last = Contains edges (u, last)
-Leads edges u (v ∷ vs) last = Contains edges (u, v) × Leads edges v vs last
+abbrev pub LeadsThrough : List (ℕ × ℕ) → ℕ → List ℕ → ℕ → Type 0
+LeadsThrough edges u [] last = Contains edges (u, last)
+LeadsThrough edges u (v ∷ vs) last = Contains edges (u, v) × LeadsThrough edges v vs last
 
 -- The cycle of the first node and the rest: it begins with the least node that lies on a cycle, it is
 -- a shortest one through that node, and among these the first by the order of the nodes.
 pub record IsFirstCycle (edges : List (ℕ × ℕ)) (first : ℕ) (rest : List ℕ) : Type 0 where
-  pub cycle : Leads edges first rest first
-  pub begins : (other : ℕ) (way : List ℕ) → Leads edges other way other → first ≤ other
-  pub shortest : (way : List ℕ) → Leads edges first way first → length rest ≤ length way
-  pub earliest : (way : List ℕ) → Leads edges first way first → length way ≡ length rest → slice_cmp nat_cmp rest way ≢ Greater
+  pub cycle : LeadsThrough edges first rest first
+  pub begins : (other : ℕ) (way : List ℕ) → LeadsThrough edges other way other → first ≤ other
+  pub shortest : (way : List ℕ) → LeadsThrough edges first way first → length rest ≤ length way
+  pub earliest : (way : List ℕ) → LeadsThrough edges first way first → length way ≡ length rest → slice_cmp nat_cmp rest way ≢ Greater
 
 -- the node lies in one of the components
 abbrev pub IsPlaced : List (List ℕ) → ℕ → Type 0
@@ -65,7 +65,7 @@ IsPlaced components node =
 pub record IsFree (nodes : ℕ) (edges : List (ℕ × ℕ)) (before : List (List ℕ)) (node : ℕ) : Type 0 where
   pub below : node < nodes
   pub fresh : IsPlaced before node → ⊥
-  pub after : (other : ℕ) → Reaches edges node other → IsPlaced before other ⊎ Reaches edges other node
+  pub after : (other : ℕ) → LeadsTo edges node other → IsPlaced before other ⊎ LeadsTo edges other node
 
 -- the component of the node, ascending, where the node is the least whose component may come
 pub record IsNextComponent (nodes : ℕ) (edges : List (ℕ × ℕ)) (before : List (List ℕ)) (component : List ℕ) (node : ℕ) : Type 0 where

@@ -19,7 +19,7 @@ pub record AreLinks (edges : List (ℕ × ℕ)) (leasts : List ℕ) (links : Lis
   pub complete : (u v : ℕ) → Contains edges (u, v) → slice_index leasts u ≢ slice_index leasts v → Contains links (slice_index leasts u, slice_index leasts v)
 
 -- for each node those of which it is the least, ascending
-pub record AreMembers (leasts : List ℕ) (rows : List (List ℕ)) : Type 0 where
+pub record AreGathered (leasts : List ℕ) (rows : List (List ℕ)) : Type 0 where
   pub sound : (a v : ℕ) → Contains (slice_index_or rows a []) v → (v < length leasts) × (slice_index leasts v ≡ a)
   pub complete : (v : ℕ) → v < length leasts → Contains (slice_index_or rows (slice_index leasts v) []) v
   pub ascending : (a : ℕ) → IsStrictlyIncreasing (slice_index_or rows a [])

@@ -14,7 +14,7 @@ pub record GetsReady (waiting waiting_after : List (List ℕ)) (ready ready_afte
   pub ready_is : ready_after ≡ insert_key nat_cmp ready node
 
 -- it waits for one of its targets
-pub record Waits (waiting waiting_after : List (List ℕ)) (ready ready_after row : List ℕ) (done : List Bool) (node : ℕ) : Type 0 where
+pub record WaitsForTarget (waiting waiting_after : List (List ℕ)) (ready ready_after row : List ℕ) (done : List Bool) (node : ℕ) : Type 0 where
   pub target : ℕ
   pub among : Contains row target
   pub needed : slice_index_or done target false ≡ false
@@ -27,4 +27,4 @@ pub record Settled (left left_after waiting waiting_after : List (List ℕ)) (do
   pub left_is : left_after ≡ slice_set left node row
   pub kept : (v : ℕ) → Contains row v → Contains (slice_index_or left node []) v
   pub dropped : (v : ℕ) → Contains (slice_index_or left node []) v → Contains row v ⊎ IsDone done v
-  pub outcome : GetsReady waiting waiting_after ready ready_after row node ⊎ Waits waiting waiting_after ready ready_after row done node
+  pub outcome : GetsReady waiting waiting_after ready ready_after row node ⊎ WaitsForTarget waiting waiting_after ready ready_after row done node

@@ -1,17 +1,17 @@
 -- The search for strong components: the state that it keeps, by the rows of the graph.
 use Rattle.std.specs.Prelude.{◌≡◌, ◌⊎◌, ◌+◌, ◌<◌, ◌≤◌, ℕ, List, [], ◌∷◌, length, take, map, replicate, cond, nat_lt, slice_index, slice_index_or, Contains, AllPairs}
-use Rattle.hr_graph.specs.Graph.{Reaches}
+use Rattle.hr_graph.specs.Graph.{LeadsTo}
 use Rattle.hr_graph.specs.declared.strong.Mark.{Mark}
 use Rattle.hr_graph.specs.declared.strong.Mark.TheVariants.{Unseen, Open, Closed}
 
 -- the row of u has v
-abbrev pub IsTarget : List (List ℕ) → ℕ → ℕ → Type 0
-IsTarget rows u v = Contains (slice_index_or rows u []) v
+abbrev pub IsSuccessor : List (List ℕ) → ℕ → ℕ → Type 0
+IsSuccessor rows u v = Contains (slice_index_or rows u []) v
 
 -- a way from u to w along the rows
-pub data Way (rows : List (List ℕ)) : ℕ → ℕ → Type 0 where
-  stay : (u : ℕ) → Way rows u u
-  go : (u v w : ℕ) → IsTarget rows u v → Way rows v w → Way rows u w
+pub data WayAlong (rows : List (List ℕ)) : ℕ → ℕ → Type 0 where
+  stay : (u : ℕ) → WayAlong rows u u
+  go : (u v w : ℕ) → IsSuccessor rows u v → WayAlong rows v w → WayAlong rows u w
 
 -- the mark of a node
 abbrev pub mark_of : List Mark → ℕ → Mark
@@ -38,7 +38,7 @@ waiting place row = map (λ v. (place, v)) row
 
 -- edges of open nodes that are still to be followed, by the place of the node
 pub record ArePending (rows : List (List ℕ)) (path : List ℕ) (pending : List (ℕ × ℕ)) : Type 0 where
-  pub edge : (p v : ℕ) → Contains pending (p, v) → (p < length path) × IsTarget rows (slice_index path p) v
+  pub edge : (p v : ℕ) → Contains pending (p, v) → (p < length path) × IsSuccessor rows (slice_index path p) v
   pub rise : AllPairs (λ e f. e.0 ≤ f.0) pending
 
 -- the target of an edge of the node at place p is closed, or open and not behind the group of p
@@ -54,33 +54,33 @@ IsNotLater label (Open q) = ⊥
 IsNotLater label (Closed other) = other ≤ label
 
 pub record AreClosed (rows : List (List ℕ)) (marks : List Mark) (closed : ℕ) : Type 0 where
-  pub edge : (u v label : ℕ) → mark_of marks u ≡ Closed label → IsTarget rows u v → IsNotLater label (mark_of marks v)
-  pub way : (u v label : ℕ) → mark_of marks u ≡ Closed label → mark_of marks v ≡ Closed label → Way rows u v
+  pub edge : (u v label : ℕ) → mark_of marks u ≡ Closed label → IsSuccessor rows u v → IsNotLater label (mark_of marks v)
+  pub way : (u v label : ℕ) → mark_of marks u ≡ Closed label → mark_of marks v ≡ Closed label → WayAlong rows u v
   pub below : (u label : ℕ) → mark_of marks u ≡ Closed label → label < closed
 
 -- what the search keeps
 pub record IsSearch (rows : List (List ℕ)) (marks : List Mark) (path starts : List ℕ) (pending : List (ℕ × ℕ)) (closed : ℕ) : Type 0 where
   pub on_path : IsPath marks path
   pub begins : AreStarts path starts
-  pub way : (p q : ℕ) → p < length path → q < length path → ComesBack starts p q → Way rows (slice_index path p) (slice_index path q)
+  pub way : (p q : ℕ) → p < length path → q < length path → ComesBack starts p q → WayAlong rows (slice_index path p) (slice_index path q)
   pub waits : ArePending rows path pending
-  pub edge : (p v : ℕ) → p < length path → IsTarget rows (slice_index path p) v → Contains pending (p, v) ⊎ IsSettled starts p (mark_of marks v)
+  pub edge : (p v : ℕ) → p < length path → IsSuccessor rows (slice_index path p) v → Contains pending (p, v) ⊎ IsSettled starts p (mark_of marks v)
   pub shut : AreClosed rows marks closed
 
 -- the same, but for the edges to one node, of which one is being followed
 pub record IsSearchBut (spare : ℕ) (rows : List (List ℕ)) (marks : List Mark) (path starts : List ℕ) (pending : List (ℕ × ℕ)) (closed : ℕ) : Type 0 where
   pub on_path : IsPath marks path
   pub begins : AreStarts path starts
-  pub way : (p q : ℕ) → p < length path → q < length path → ComesBack starts p q → Way rows (slice_index path p) (slice_index path q)
+  pub way : (p q : ℕ) → p < length path → q < length path → ComesBack starts p q → WayAlong rows (slice_index path p) (slice_index path q)
   pub waits : ArePending rows path pending
-  pub edge : (p v : ℕ) → p < length path → IsTarget rows (slice_index path p) v → (Contains pending (p, v) ⊎ IsSettled starts p (mark_of marks v)) ⊎ (v ≡ spare)
+  pub edge : (p v : ℕ) → p < length path → IsSuccessor rows (slice_index path p) v → (Contains pending (p, v) ⊎ IsSettled starts p (mark_of marks v)) ⊎ (v ≡ spare)
   pub shut : AreClosed rows marks closed
 
 -- a mark after the nodes from the place on are closed
-abbrev pub closing : ℕ → ℕ → Mark → Mark
-closing label start Unseen = Unseen
-closing label start (Open p) = cond (nat_lt p start) (Open p) (Closed label)
-closing label start (Closed other) = Closed other
+abbrev pub closed_from : ℕ → ℕ → Mark → Mark
+closed_from label start Unseen = Unseen
+closed_from label start (Open p) = cond (nat_lt p start) (Open p) (Closed label)
+closed_from label start (Closed other) = Closed other
 
 -- the groups that begin up to the place are left
 pub record Joined (before after : List ℕ) (place : ℕ) : Type 0 where
@@ -118,7 +118,7 @@ work rows marks starts pending = weigh (loads rows) marks + length pending + len
 
 -- the targets are nodes
 abbrev pub HasTargets : List (List ℕ) → Type 0
-HasTargets rows = (u v : ℕ) → IsTarget rows u v → v < length rows
+HasTargets rows = (u v : ℕ) → IsSuccessor rows u v → v < length rows
 
 -- a search that is sound, with room
 pub record IsSound (rows : List (List ℕ)) (marks : List Mark) (path starts : List ℕ) (pending : List (ℕ × ℕ)) (closed : ℕ) : Type 0 where
@@ -127,13 +127,13 @@ pub record IsSound (rows : List (List ℕ)) (marks : List Mark) (path starts : L
   pub room : HasRoom rows marks starts closed
 
 -- the same while an edge of the last group to the target is followed
-pub record Follows (rows : List (List ℕ)) (marks : List Mark) (path starts : List ℕ) (pending : List (ℕ × ℕ)) (closed target : ℕ) : Type 0 where
+pub record IsFollowing (rows : List (List ℕ)) (marks : List Mark) (path starts : List ℕ) (pending : List (ℕ × ℕ)) (closed target : ℕ) : Type 0 where
   pub search : IsSearchBut target rows marks path starts pending closed
   pub long : length marks ≡ length rows
   pub room : HasRoom rows marks starts closed
   pub place : ℕ
   pub within : place < length path
-  pub edge : IsTarget rows (slice_index path place) target
+  pub edge : IsSuccessor rows (slice_index path place) target
   pub last : (s : ℕ) → Contains starts s → s ≤ place
 
 -- the node was seen
@@ -158,7 +158,7 @@ pub record AreLabels (nodes : ℕ) (edges : List (ℕ × ℕ)) (labels : List �
   pub long : length labels ≡ nodes
   pub small : (u : ℕ) → u < nodes → slice_index labels u < nodes
   pub falls : (u v : ℕ) → Contains edges (u, v) → slice_index labels v ≤ slice_index labels u
-  pub way : (u v : ℕ) → u < nodes → v < nodes → slice_index labels u ≡ slice_index labels v → Reaches edges u v
+  pub way : (u v : ℕ) → u < nodes → v < nodes → slice_index labels u ≡ slice_index labels v → LeadsTo edges u v
 
 -- a search that has seen nothing
 pub record IsFresh (nodes : ℕ) (marks : List Mark) (path starts : List ℕ) (pending : List (ℕ × ℕ)) (closed : ℕ) : Type 0 where

@@ -1,6 +1,6 @@
 ghost use Rattle.std.specs.Prelude.{◌≡◌, ◌<◌, ℕ, Some, None, length, replicate, All, IfOk, slice_index_or, slice_set, unwrap_or, vec_len};
 ghost use Rattle.hr_graph.specs.Graph.{AreComponents, IsWithin};
-ghost use Rattle.hr_graph.specs.Groups.{AreLeasts, AreLinks, AreMembers, groups_of};
+ghost use Rattle.hr_graph.specs.Groups.{AreLeasts, AreLinks, AreGathered, groups_of};
 
 use crate::ready::first_ready;
 use crate::rows::{append, empty_rows};
@@ -63,7 +63,7 @@ fn between(
 fn members(alloc: Global, leasts: &[usize]) -> Result<Vec<Seq<usize>>, AllocError>
     requires { All (λ least. least < length leasts.now) leasts.now }
     ensures length { IfOk result (λ rows. vec_len rows ≡ length leasts.now) }
-    ensures members { IfOk result (λ rows. AreMembers leasts.now rows.items) }
+    ensures members { IfOk result (λ rows. AreGathered leasts.now rows.items) }
 {
     let mut rows = empty_rows(alloc, leasts.len())?;
     for (node, least) in leasts.iter().enumerate() {

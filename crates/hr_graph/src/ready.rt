@@ -1,7 +1,7 @@
 //! The order in which each node comes after those that it points to, the least first where several
 //! may come. Each node that may not come yet waits for one of its targets.
 ghost use Rattle.std.specs.Prelude.{◌≡◌, ◌⊎◌, ◌<◌, ℕ, false, [], replicate, length, IfNone, IfSome, IfOk, OnOk, Contains, slice_index_or, vec_len};
-ghost use Rattle.hr_graph.specs.Graph.{IsWithin, IsInOrder, IsReady};
+ghost use Rattle.hr_graph.specs.Graph.{IsWithin, IsInOrder, MayCome};
 ghost use Rattle.hr_graph.specs.Rows.{AreRows};
 ghost use Rattle.hr_graph.specs.Ready.{IsDone, Settled};
 
@@ -82,7 +82,7 @@ pub(crate) fn first_ready(
 ) -> Result<Vec<usize>, AllocError>
     requires { IsWithin nodes edges.now }
     ensures order { IfOk result (λ order. IsInOrder nodes edges.now order.items) }
-    ensures all { IfOk result (λ order. (node : ℕ) → IsReady nodes edges.now order.items node → ⊥) }
+    ensures all { IfOk result (λ order. (node : ℕ) → MayCome nodes edges.now order.items node → ⊥) }
 {
     let mut agenda = Agenda::new(alloc, nodes, edges)?;
     for node in 0..nodes {

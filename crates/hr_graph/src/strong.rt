@@ -4,7 +4,7 @@
 ghost use Rattle.std.specs.Prelude.{◌≡◌, ◌+◌, ◌<◌, ◌≤◌, ◌++◌, ◌∷◌, ◌↔◌, ℕ, [], length, take, set, map, IfNone, IfSome, IfOk, OnOk, IsTrue, Contains, slice_index_or, vec_len};
 ghost use Rattle.std.specs.Bool.{MatchBool};
 ghost use Rattle.hr_graph.specs.Graph.{IsWithin};
-ghost use Rattle.hr_graph.specs.Strong.{IsPath, IsSound, Follows, Joined, AreEarly, HasTargets, closing, mark_of, waiting, work, IsSeen, KeepsSeen, label_in, AreLabels, IsFresh};
+ghost use Rattle.hr_graph.specs.Strong.{IsPath, IsSound, IsFollowing, Joined, AreEarly, HasTargets, closed_from, mark_of, waiting, work, IsSeen, KeepsSeen, label_in, AreLabels, IsFresh};
 
 use crate::rows::successors;
 use hr_base::Seq;
@@ -71,7 +71,7 @@ fn join(starts: &mut Vec<usize>, place: usize)
 /// Closes the nodes of the path from this place on.
 fn shut(marks: &mut Vec<Mark>, path: &mut Vec<usize>, start: usize, label: usize)
     requires { IsPath marks.old.items path.old.items }
-    ensures marks { (v : ℕ) → mark_of marks.new.items v ≡ closing label start (mark_of marks.old.items v) }
+    ensures marks { (v : ℕ) → mark_of marks.new.items v ≡ closed_from label start (mark_of marks.old.items v) }
     ensures length { vec_len marks.new ≡ vec_len marks.old }
     ensures path { path.new.items ≡ take start path.old.items }
 {
@@ -113,7 +113,7 @@ impl Search {
 
     /// Follows an edge of the last group.
     fn follow(&mut self, rows: &[Seq<usize>], target: usize) -> Result<(), AllocError>
-        requires follows { Follows rows.now self.old.marks.items self.old.path.items self.old.starts.items self.old.pending.items self.old.closed target }
+        requires follows { IsFollowing rows.now self.old.marks.items self.old.path.items self.old.starts.items self.old.pending.items self.old.closed target }
         requires within { target < length rows.now }
         ensures sound { OnOk result (IsSound rows.now self.new.marks.items self.new.path.items self.new.starts.items self.new.pending.items self.new.closed) }
         ensures seen { OnOk result (KeepsSeen self.old.marks.items self.new.marks.items) }

@@ -1,12 +1,12 @@
 -- The last group has an edge left, which is followed, or none, and it is closed.
 use Rattle.std.proofs.Common.{◌≡◌, ◌-◌, ◌<◌, ◌++◌, ◌∷◌, [], take, refl, subst, sym, ◌∙◌, arith}
 use Rattle.std.specs.Vec.{vec_len}
-use Rattle.hr_graph.specs.Strong.{Follows, work, mark_of, IsSeen}
+use Rattle.hr_graph.specs.Strong.{IsFollowing, work, mark_of, IsSeen}
 use Rattle.hr_graph.proofs.Members.{last_split}
 use Rattle.hr_graph.proofs.FollowSteps.{sound_same, follow_next, close_last, less_close, seen_closing}
 use Rattle.hr_graph.proofs.strong.Search.explore.Goals as goal
 
-follows : (c : goal.After-follow-arg-1) → Follows c.args.rows.now c.loop-start.self.marks.items c.loop-start.self.path.items c.loop-start.self.starts.items c.next_target.new.pending.items c.loop-start.self.closed c.in-Some-next_target.target
+follows : (c : goal.After-follow-arg-1) → IsFollowing c.args.rows.now c.loop-start.self.marks.items c.loop-start.self.path.items c.loop-start.self.starts.items c.next_target.new.pending.items c.loop-start.self.closed c.in-Some-next_target.target
 follows c =
     let e = c.in-Some-next_target.ensures.some in
     let starts = c.loop-start.self.starts.items in
