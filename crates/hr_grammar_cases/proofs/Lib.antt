@@ -13,6 +13,7 @@ pub mod Heads
 pub mod Imports
 pub mod Modules
 pub mod Patterns
+pub mod Places
 pub mod Readings
 pub mod Shrinks
 pub mod Standing

@@ -6,6 +6,7 @@ pub mod Imports
 pub mod Laws
 pub mod Modules
 pub mod Patterns
+pub mod Places
 pub mod Readings
 pub mod Types
 pub mod Widening

@@ -1,5 +1,6 @@
 //! Laws of the relation.
 ghost use Rattle.hr_grammar_cases.specs.Laws.{ImportsGive, LevelsAre, LevelsGive, ModulesAre, ModulesGive, ModulesStand, ModulesYield, PartsEnd, PatternsGive, PiecesStop, ReadingsShrink, TypesGive};
+ghost use Rattle.hr_grammar_cases.specs.Places.{LevelsWidenPlaces};
 ghost use Rattle.hr_grammar_cases.specs.Widening.{LevelsWiden, ModulesWiden};
 ghost use Rattle.hr_grammar_cases.specs.Worked.{WorkedTexts};
 
@@ -79,4 +80,10 @@ pub fn levels_widen()
 /// What is read as a module with so many levels of nodes is read as it with more.
 pub fn modules_widen()
     ensures { ModulesWiden }
+{}
+
+/// What is read at a place of the grammar is read at each place where more may stand: an atom as an operand, a local
+/// declaration at the top, what has no `::` where `::` may stand.
+pub fn places_widen()
+    ensures { LevelsWidenPlaces }
 {}
