@@ -6,12 +6,12 @@ use Rattle.hr_rules.specs.declared.block.Placed.{Placed}
 use Rattle.hr_rules.specs.Blocks.{at_margin, ends_block}
 use Rattle.hr_tree.specs.declared.lists.Layout.{Layout}
 use Rattle.hr_grammar.specs.Spans.{BlockSpan, Stretch}
-use Rattle.hr_grammar.specs.Offside.{column_of, IsAtMargin, PartsBegin, begins, is_braced, StandsRight, Next, IsOffside, StandsAs, StandsWell}
+use Rattle.hr_grammar.specs.Offside.{column_of, IsAtMargin, undivided, piece_starts, is_braced, StandsRight, Next, IsOffside, StandsAs, StandsWell}
 use Rattle.hr_grammar.proofs.Tables.{both_true}
 
 abbrev stands_right : List BlockSpan → BlockSpan → ℕ → ℕ → Placed → Bool
 stands_right spans block n i next =
-    not next.first || (is_braced spans block i || (nat_lt n next.pos.col || ((i == block.start) || ((next.pos.col == n) && list_any (λ s. s == i) (begins block.start block.pieces)))))
+    not next.first || (is_braced spans block i || (nat_lt n next.pos.col || ((i == block.start) || ((next.pos.col == n) && list_any (λ s. s == i) (piece_starts block.start block.pieces)))))
 
 one_of : (f b l a c d : Bool) → f ≡ true → b ≡ false → (not f || (b || (l || (a || (c && d))))) ≡ true → (l ≡ true) ⊎ ((a ≡ true) ⊎ ((c ≡ true) × (d ≡ true)))
 one_of false b l a c d f e r = let no : ⊥ = cc in elim no [ ]
@@ -23,10 +23,10 @@ one_of true false false false true false f e r = let no : ⊥ = cc in elim no [ 
 one_of true false false false false d f e r = let no : ⊥ = cc in elim no [ ]
 
 stands_right_is : (spans : List BlockSpan) (block : BlockSpan) (n i : ℕ) (next : Placed) → stands_right spans block n i next ≡ true → StandsRight spans block n i next
-stands_right_is spans block n i next r first braced = by (one_of next.first (is_braced spans block i) (nat_lt n next.pos.col) (i == block.start) (next.pos.col == n) (list_any (λ s. s == i) (begins block.start block.pieces)) first braced r)
+stands_right_is spans block n i next r first braced = by (one_of next.first (is_braced spans block i) (nat_lt n next.pos.col) (i == block.start) (next.pos.col == n) (list_any (λ s. s == i) (piece_starts block.start block.pieces)) first braced r)
   where
-    by : (nat_lt n next.pos.col ≡ true) ⊎ (((i == block.start) ≡ true) ⊎ (((next.pos.col == n) ≡ true) × (list_any (λ s. s == i) (begins block.start block.pieces) ≡ true)))
-        → (n < next.pos.col) ⊎ ((i ≡ block.start) ⊎ ((next.pos.col ≡ n) × (list_any (λ s. s == i) (begins block.start block.pieces) ≡ true)))
+    by : (nat_lt n next.pos.col ≡ true) ⊎ (((i == block.start) ≡ true) ⊎ (((next.pos.col == n) ≡ true) × (list_any (λ s. s == i) (piece_starts block.start block.pieces) ≡ true)))
+        → (n < next.pos.col) ⊎ ((i ≡ block.start) ⊎ ((next.pos.col ≡ n) × (list_any (λ s. s == i) (piece_starts block.start block.pieces) ≡ true)))
     by (inl l) = inl (ltb-true n next.pos.col l)
     by (inr (inl a)) = inr (inl (eqb-true i block.start a))
     by (inr (inr both)) = inr (inr (eqb-true next.pos.col n both.0, both.1))
@@ -76,21 +76,15 @@ is_at_margin_is : (n : ℕ) (rest : List Placed) → is_at_margin n rest ≡ tru
 is_at_margin_is n [] r = let no : ⊥ = cc in elim no [ ]
 is_at_margin_is n (next ∷ rest) r = r
 
-abbrev parts_begin : ℕ → List Stretch → List Placed → Bool
-parts_begin n [] rest = true
-parts_begin n (Stretch.Semicolon ∷ pieces) rest = parts_begin n pieces (drop 1 rest)
-parts_begin n (Stretch.Part k ∷ []) rest = true
-parts_begin n (Stretch.Part k ∷ (Stretch.Semicolon ∷ pieces)) rest = parts_begin n (Stretch.Semicolon ∷ pieces) (drop k rest)
-parts_begin n (Stretch.Part k ∷ (Stretch.Part j ∷ pieces)) rest = is_at_margin n (drop k rest) && parts_begin n (Stretch.Part j ∷ pieces) (drop k rest)
+abbrev at_margins : ℕ → List Placed → List ℕ → Bool
+at_margins n lexemes [] = true
+at_margins n lexemes (i ∷ numbers) = is_at_margin n (drop i lexemes) && at_margins n lexemes numbers
 
-parts_begin_is : (n : ℕ) (pieces : List Stretch) (rest : List Placed) → parts_begin n pieces rest ≡ true → PartsBegin n pieces rest
-parts_begin_is n [] rest r = tt
-parts_begin_is n (Stretch.Semicolon ∷ pieces) rest r = parts_begin_is n pieces (drop 1 rest) r
-parts_begin_is n (Stretch.Part k ∷ []) rest r = tt
-parts_begin_is n (Stretch.Part k ∷ (Stretch.Semicolon ∷ pieces)) rest r = parts_begin_is n (Stretch.Semicolon ∷ pieces) (drop k rest) r
-parts_begin_is n (Stretch.Part k ∷ (Stretch.Part j ∷ pieces)) rest r =
-    let both = both_true (is_at_margin n (drop k rest)) (parts_begin n (Stretch.Part j ∷ pieces) (drop k rest)) r in
-    (is_at_margin_is n (drop k rest) both.0, parts_begin_is n (Stretch.Part j ∷ pieces) (drop k rest) both.1)
+at_margins_are : (n : ℕ) (lexemes : List Placed) (numbers : List ℕ) → at_margins n lexemes numbers ≡ true → AllByRecursion (λ i. IsAtMargin n (drop i lexemes)) numbers
+at_margins_are n lexemes [] r = tt
+at_margins_are n lexemes (i ∷ numbers) r =
+    let both = both_true (is_at_margin n (drop i lexemes)) (at_margins n lexemes numbers) r in
+    (is_at_margin_is n (drop i lexemes) both.0, at_margins_are n lexemes numbers both.1)
 
 abbrev are_none : List Stretch → Bool
 are_none [] = true
@@ -103,7 +97,7 @@ are_none_is (piece ∷ pieces) r = let no : ⊥ = cc in elim no [ ]
 -- the points of a block that has lexemes, and of one that is left empty
 abbrev has_points : List BlockSpan → List Placed → BlockSpan → ℕ → Bool
 has_points spans lexemes block n =
-    parts_begin n block.pieces (drop block.start lexemes)
+    at_margins n lexemes (undivided block.start block.pieces)
     && (all_right spans block n block.start block.extent (drop block.start lexemes) && ends_block n block.kind block.ending (drop (block.start + block.extent) lexemes))
 
 abbrev is_offside : List BlockSpan → List Placed → BlockSpan → ℕ → Bool
@@ -127,13 +121,13 @@ is_offside_is : (spans : List BlockSpan) (lexemes : List Placed) (block : BlockS
 is_offside_is spans lexemes block n r =
     let both = both_true (n == column_of (drop block.start lexemes)) ((not (nat_lt block.enclosing n) && are_none block.pieces) || (nat_lt block.enclosing n && has_points spans lexemes block n)) r in
     let ways = empty_or (nat_lt block.enclosing n) (are_none block.pieces) (has_points spans lexemes block n) both.1 in
-    let points = λ (l : block.enclosing < n). both_true (parts_begin n block.pieces (drop block.start lexemes))
+    let points = λ (l : block.enclosing < n). both_true (at_margins n lexemes (undivided block.start block.pieces))
     (all_right spans block n block.start block.extent (drop block.start lexemes) && ends_block n block.kind block.ending (drop (block.start + block.extent) lexemes)) (ways.1 (lt-ltb block.enclosing n l)) in
     let others = λ (l : block.enclosing < n). both_true (all_right spans block n block.start block.extent (drop block.start lexemes)) (ends_block n block.kind block.ending (drop (block.start + block.extent) lexemes)) (points l).1 in
     record {
       column = eqb-true n (column_of (drop block.start lexemes)) both.0;
       empty = λ h. are_none_is block.pieces (ways.0 (not_less block.enclosing n h));
-      parts = λ l. parts_begin_is n block.pieces (drop block.start lexemes) (points l).0;
+      parts = λ l. at_margins_are n lexemes (undivided block.start block.pieces) (points l).0;
       stands = λ l. all_right_is spans lexemes block n block.start block.extent (drop block.start lexemes) refl (others l).0;
       ends = λ l. (others l).1;
     }

@@ -39,18 +39,23 @@ abbrev pub IsAtMargin : ℕ → List Placed → Type 0
 IsAtMargin n [] = ⊥
 IsAtMargin n (next ∷ rest) = at_margin n next ≡ true
 
--- point 2: each part after the first begins behind a `;`, or is first on its line at n
-abbrev pub PartsBegin : ℕ → List Stretch → List Placed → Type 0
-PartsBegin n [] rest = Unit {0}
-PartsBegin n (Stretch.Semicolon ∷ pieces) rest = PartsBegin n pieces (drop 1 rest)
-PartsBegin n (Stretch.Part k ∷ []) rest = Unit {0}
-PartsBegin n (Stretch.Part k ∷ (Stretch.Semicolon ∷ pieces)) rest = PartsBegin n (Stretch.Semicolon ∷ pieces) (drop k rest)
-PartsBegin n (Stretch.Part k ∷ (Stretch.Part j ∷ pieces)) rest = IsAtMargin n (drop k rest) × PartsBegin n (Stretch.Part j ∷ pieces) (drop k rest)
+-- the numbers of the lexemes with which parts begin that stand directly behind another one, without a `;`, where the
+-- pieces begin with the number s
+abbrev pub undivided : ℕ → List Stretch → List ℕ
+undivided s [] = []
+undivided s (Stretch.Semicolon ∷ pieces) = undivided (s + 1) pieces
+undivided s (Stretch.Part k ∷ []) = []
+undivided s (Stretch.Part k ∷ (Stretch.Semicolon ∷ pieces)) = undivided (s + k) (Stretch.Semicolon ∷ pieces)
+undivided s (Stretch.Part k ∷ (Stretch.Part j ∷ pieces)) = (s + k) ∷ undivided (s + k) (Stretch.Part j ∷ pieces)
+
+-- point 2: each of these is first on its line at n
+abbrev pub PartsBegin : ℕ → List Placed → ℕ → List Stretch → Type 0
+PartsBegin n lexemes start pieces = AllByRecursion (λ i. IsAtMargin n (drop i lexemes)) (undivided start pieces)
 
 -- the numbers of the lexemes with which the pieces begin, where the first of them has the number s
-abbrev pub begins : ℕ → List Stretch → List ℕ
-begins s [] = []
-begins s (piece ∷ pieces) = s ∷ begins (s + stretch_length piece) pieces
+abbrev pub piece_starts : ℕ → List Stretch → List ℕ
+piece_starts s [] = []
+piece_starts s (piece ∷ pieces) = s ∷ piece_starts (s + stretch_length piece) pieces
 
 -- the lexeme of that number stands in explicit braces, themselves counted, inside the block
 abbrev pub is_braced : List BlockSpan → BlockSpan → ℕ → Bool
@@ -71,14 +76,14 @@ Next Is (next ∷ rest) = Is next
 abbrev pub StandsRight : List BlockSpan → BlockSpan → ℕ → ℕ → Placed → Type 0
 StandsRight spans block n i next =
     next.first ≡ true → is_braced spans block i ≡ false
-    → (n < next.pos.col) ⊎ ((i ≡ block.start) ⊎ ((next.pos.col ≡ n) × (list_any (λ s. s == i) (begins block.start block.pieces) ≡ true)))
+    → (n < next.pos.col) ⊎ ((i ≡ block.start) ⊎ ((next.pos.col ≡ n) × (list_any (λ s. s == i) (piece_starts block.start block.pieces) ≡ true)))
 
 -- an implicit block at column n with lexemes round it
 pub record IsOffside (spans : List BlockSpan) (lexemes : List Placed) (block : BlockSpan) (n : ℕ) : Type 0 where
   -- its column is that of the lexeme behind its opening, and one that is left empty has no lexeme
   pub column : n ≡ column_of (drop block.start lexemes)
   pub empty : n ≤ block.enclosing → block.pieces ≡ []
-  pub parts : block.enclosing < n → PartsBegin n block.pieces (drop block.start lexemes)
+  pub parts : block.enclosing < n → PartsBegin n lexemes block.start block.pieces
   -- point 3, of each lexeme of the block
   pub stands : block.enclosing < n → (i : ℕ) → block.start ≤ i → i < block.start + block.extent → Next (StandsRight spans block n i) (drop i lexemes)
   -- point 4: the lexeme behind the block is missing, or first on its line and left of n, or first at n and not

@@ -3,6 +3,7 @@ pub mod Declarations
 pub mod Endings
 pub mod EndingsAgree
 pub mod Expressions
+pub mod Fronts
 pub mod Grammatical
 pub mod GrammaticalBlocks
 pub mod GrammaticalDeclarations

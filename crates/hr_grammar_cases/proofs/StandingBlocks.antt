@@ -13,7 +13,7 @@ use Rattle.hr_tree.specs.declared.lists.Piece.{Piece}
 use Rattle.hr_grammar.specs.Words.{IsLeftBrace, IsRightBrace, IsSemicolon}
 use Rattle.hr_grammar.specs.Nodes.{DeclPlace}
 use Rattle.hr_grammar.specs.Spans.{BlockSpan, Laid, one as one_laid, stretch_of, last_ending, block_laid}
-use Rattle.hr_grammar.specs.Offside.{column_of, begins, IsOffside, StandsWell}
+use Rattle.hr_grammar.specs.Offside.{column_of, piece_starts, IsOffside, StandsWell}
 use Rattle.hr_grammar_cases.specs.Readings.{Reading}
 use Rattle.hr_grammar_cases.specs.Blocks.{Parts, part_then, pieces_reading, braced_reading, implicit_reading, layout_reading, block_reading}
 use Rattle.hr_grammar_cases.proofs.Stretches.{beside, Has, has_first, is_empty_at, none_empty, Text, lexemes, seen, seen_plain, seen_empty}
@@ -61,7 +61,7 @@ implicit_offside text of kind m col start pieces us l c ends p =
       empty = λ h. elim (not_above m col l h) [ ];
       parts = λ h. p.parts;
       stands = λ h j a b. is_right text block col j
-          (subst (λ k. Right text col start (start + k) j ⊎ (AtLeast text col j × (list_any (λ s. s == j) (begins start (stretches of pieces)) ≡ true))) (sym extent) (p.each j a (omega arith)));
+          (subst (λ k. Right text col start (start + k) j ⊎ (AtLeast text col j × (list_any (λ s. s == j) (piece_starts start (stretches of pieces)) ≡ true))) (sym extent) (p.each j a (omega arith)));
       ends = λ h. subst (λ k. ends_block col kind (last_ending (laids of pieces)) (drop (start + k) (lexemes text)) ≡ true) (sym extent)
           (ends_in text col kind (last_ending (laids of pieces)) (start + (pieces_laid of pieces).extent) us p.after ends);
     }
@@ -77,7 +77,7 @@ implicit_standing : {T : Type 0} (text : Text) (of : T → Laid) (kind : BlockKi
 implicit_standing text of kind m col begun start pieces us l o p = record {
   after = p.after ∙ ap (λ (k : ℕ). seen text false (start + k)) (sym (none_over (pieces_laid of pieces).extent));
   each = λ i a h. inl (subst (λ k. Right text m start (start + k) i) (sym (none_over (pieces_laid of pieces).extent))
-      (inner_goes text m col start (start + (pieces_laid of pieces).extent) i (list_any (λ s. s == i) (begins start (stretches of pieces)) ≡ true) l (p.each i a (omega arith))));
+      (inner_goes text m col start (start + (pieces_laid of pieces).extent) i (list_any (λ s. s == i) (piece_starts start (stretches of pieces)) ≡ true) l (p.each i a (omega arith))));
   blocks = λ span has. by span has;
 }
   where

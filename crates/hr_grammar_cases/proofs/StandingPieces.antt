@@ -1,5 +1,5 @@
 -- The pieces of a block without braces: points 2 and 3 of the layout rule, and the ending of the last one.
-use Rattle.std.proofs.Common.{◌≡◌, ◌≢◌, ◌⊎◌, ◌≤◌, ◌<◌, ℕ, zero, suc, ◌+◌, ◌==◌, ◌||◌, ◌&&◌, Bool, true, false, List, [], ◌∷◌, map, drop, refl, sym, ap, ◌∙◌, subst, inl, inr, add-zero, add_assoc, arith, eq-eqb, drop-drop}
+use Rattle.std.proofs.Common.{◌≡◌, ◌≢◌, ◌⊎◌, ◌≤◌, ◌<◌, ℕ, zero, suc, ◌+◌, ◌==◌, ◌||◌, ◌&&◌, Bool, true, false, List, [], ◌∷◌, map, drop, refl, sym, ap, ◌∙◌, subst, inl, inr, add-zero, add_assoc, arith, eq-eqb}
 use Rattle.std.specs.List.{list_any}
 use Rattle.std.proofs.lemmas.Bool.{not-true, or_left, or_right}
 use Rattle.hr_base.specs.declared.lexeme.Ending.{Ending}
@@ -11,7 +11,7 @@ use Rattle.hr_rules.proofs.Margins.{margins}
 use Rattle.hr_tree.specs.declared.lists.Piece.{Piece}
 use Rattle.hr_grammar.specs.Nodes.{DeclPlace}
 use Rattle.hr_grammar.specs.Spans.{BlockSpan, Stretch, Laid, blockless, row, piece_laid, stretch_of, last_ending}
-use Rattle.hr_grammar.specs.Offside.{IsAtMargin, PartsBegin, begins, placed_among, StandsWell, Next}
+use Rattle.hr_grammar.specs.Offside.{IsAtMargin, PartsBegin, piece_starts, placed_among, StandsWell, Next}
 use Rattle.hr_grammar_cases.specs.Blocks.{Parts, takes_semicolon, pieces_reading}
 use Rattle.hr_grammar_cases.proofs.Stops.{starts_at}
 use Rattle.hr_grammar_cases.proofs.Stretches.{beside, Has, has_either, is_empty_at, Text, lexemes, mark_or, seen, lexemes_at, next_in, seen_plain, seen_begun, before_or_behind}
@@ -100,31 +100,28 @@ margin_in text n ending i ws other s e =
 -- ---- point 2
 part_begins : {T : Type 0} (of : T → Laid) (parts : Parts T) (text : Text) (kind : BlockKind) (n : ℕ) (place : DeclPlace) (ending : Ending) (pieces : List (Piece T)) (ws us : List Placed)
     → pieces_reading parts kind n place ending pieces ws us → ending ≢ Ending.Nothing → (start k : ℕ) → ws ≡ seen text false (start + k)
-    → PartsBegin n (stretches of pieces) (drop (start + k) (lexemes text)) → PartsBegin n (Stretch.Part k ∷ stretches of pieces) (drop start (lexemes text))
+    → PartsBegin n (lexemes text) (start + k) (stretches of pieces) → PartsBegin n (lexemes text) start (Stretch.Part k ∷ stretches of pieces)
 part_begins of parts text kind n place ending [] ws us r other start k e p = tt
-part_begins of parts text kind n place ending (Piece.Semicolon item ∷ pieces) ws us r other start k e p =
-    subst (PartsBegin n (Stretch.Semicolon ∷ stretches of pieces)) (sym (drop-drop k start (lexemes text))) p
-part_begins of parts text kind n place ending (Piece.Part part ∷ pieces) ws us r other start k e p =
-    let same = sym (drop-drop k start (lexemes text)) in
-    (subst (IsAtMargin n) same (margin_in text n ending (start + k) ws other r.1.0 e), subst (PartsBegin n (Stretch.Part (of part).extent ∷ stretches of pieces)) same p)
+part_begins of parts text kind n place ending (Piece.Semicolon item ∷ pieces) ws us r other start k e p = p
+part_begins of parts text kind n place ending (Piece.Part part ∷ pieces) ws us r other start k e p = (margin_in text n ending (start + k) ws other r.1.0 e, p)
 
 -- ---- the pieces
 -- behind them; each of their lexemes; their blocks; point 2
 pub record PiecesStanding (text : Text) (n start : ℕ) (laid : Laid) (pieces : List Stretch) (us : List Placed) : Type 0 where
   pub after : us ≡ seen text false (start + laid.extent)
-  pub each : (i : ℕ) → start ≤ i → i < start + laid.extent → Right text n start (start + laid.extent) i ⊎ (AtLeast text n i × (list_any (λ s. s == i) (begins start pieces) ≡ true))
+  pub each : (i : ℕ) → start ≤ i → i < start + laid.extent → Right text n start (start + laid.extent) i ⊎ (AtLeast text n i × (list_any (λ s. s == i) (piece_starts start pieces) ≡ true))
   pub blocks : (span : BlockSpan) → Has (laid.blocks n start) span → StandsWell text.spans (lexemes text) span
-  pub parts : PartsBegin n pieces (drop start (lexemes text))
+  pub parts : PartsBegin n (lexemes text) start pieces
 
 first_begins : (i start : ℕ) (rest : List ℕ) → i ≡ start → list_any (λ s. s == i) (start ∷ rest) ≡ true
 first_begins i start rest same = or_left (start == i) (list_any (λ s. s == i) rest) (eq-eqb start i (sym same))
 
 -- what stands behind the first piece
 later : (text : Text) (n start e f : ℕ) (pieces : List Stretch) (i : ℕ)
-    → Right text n (start + e) ((start + e) + f) i ⊎ (AtLeast text n i × (list_any (λ s. s == i) (begins (start + e) pieces) ≡ true))
-    → Right text n start (start + (e + f)) i ⊎ (AtLeast text n i × (list_any (λ s. s == i) (start ∷ begins (start + e) pieces) ≡ true))
+    → Right text n (start + e) ((start + e) + f) i ⊎ (AtLeast text n i × (list_any (λ s. s == i) (piece_starts (start + e) pieces) ≡ true))
+    → Right text n start (start + (e + f)) i ⊎ (AtLeast text n i × (list_any (λ s. s == i) (start ∷ piece_starts (start + e) pieces) ≡ true))
 later text n start e f pieces i (inl r) = inl (wider text n (start + e) ((start + e) + f) start (start + (e + f)) i (omega arith) (omega arith) r)
-later text n start e f pieces i (inr b) = inr (b.0, or_right (start == i) (list_any (λ s. s == i) (begins (start + e) pieces)) b.1)
+later text n start e f pieces i (inr b) = inr (b.0, or_right (start == i) (list_any (λ s. s == i) (piece_starts (start + e) pieces)) b.1)
 
 begins_here : (text : Text) (n start : ℕ) (rest : List ℕ) (i : ℕ) → i ≡ start → AtLeast text n start → AtLeast text n i × (list_any (λ s. s == i) (start ∷ rest) ≡ true)
 begins_here text n start rest i same l = (subst (λ j. AtLeast text n j) (sym same) l, first_begins i start rest same)
@@ -143,16 +140,16 @@ semicolon_standing text n start laid pieces us l t = record {
   after = t.after ∙ ap (λ (k : ℕ). seen text false k) (add_assoc start 1 laid.extent);
   each = λ i a h. by i a h (before_or_behind i (start + 1));
   blocks = t.blocks;
-  parts = subst (PartsBegin n pieces) (sym (drop-drop 1 start (lexemes text))) t.parts;
+  parts = t.parts;
 }
   where
     by : (i : ℕ) → start ≤ i → i < start + (1 + laid.extent) → (i < start + 1) ⊎ (start + 1 ≤ i)
-        → Right text n start (start + (1 + laid.extent)) i ⊎ (AtLeast text n i × (list_any (λ s. s == i) (start ∷ begins (start + 1) pieces) ≡ true))
-    by i a h (inl c) = inr (begins_here text n start (begins (start + 1) pieces) i (omega arith) l)
+        → Right text n start (start + (1 + laid.extent)) i ⊎ (AtLeast text n i × (list_any (λ s. s == i) (start ∷ piece_starts (start + 1) pieces) ≡ true))
+    by i a h (inl c) = inr (begins_here text n start (piece_starts (start + 1) pieces) i (omega arith) l)
     by i a h (inr c) = later text n start 1 laid.extent pieces i (t.each i c (omega arith))
 
 part_standing : (text : Text) (n start : ℕ) (part laid : Laid) (pieces : List Stretch) (vs us : List Placed) → AtLeast text n start → Standing text n false true start part vs
-    → PiecesStanding text n (start + part.extent) laid pieces us → PartsBegin n (Stretch.Part part.extent ∷ pieces) (drop start (lexemes text))
+    → PiecesStanding text n (start + part.extent) laid pieces us → PartsBegin n (lexemes text) start (Stretch.Part part.extent ∷ pieces)
     → PiecesStanding text n start (beside part laid) (Stretch.Part part.extent ∷ pieces) us
 part_standing text n start part laid pieces vs us l s t p = record {
   after = t.after ∙ ap (λ (k : ℕ). seen text false k) (add_assoc start part.extent laid.extent);
@@ -162,12 +159,12 @@ part_standing text n start part laid pieces vs us l s t p = record {
 }
   where
     in_part : (i : ℕ) → Right text n start (start + part.extent) i ⊎ ((i ≡ start) × (true ≡ true))
-        → Right text n start (start + (part.extent + laid.extent)) i ⊎ (AtLeast text n i × (list_any (λ s. s == i) (start ∷ begins (start + part.extent) pieces) ≡ true))
+        → Right text n start (start + (part.extent + laid.extent)) i ⊎ (AtLeast text n i × (list_any (λ s. s == i) (start ∷ piece_starts (start + part.extent) pieces) ≡ true))
     in_part i (inl r) = inl (wider text n start (start + part.extent) start (start + (part.extent + laid.extent)) i (omega arith) (omega arith) r)
-    in_part i (inr x) = inr (begins_here text n start (begins (start + part.extent) pieces) i x.0 l)
+    in_part i (inr x) = inr (begins_here text n start (piece_starts (start + part.extent) pieces) i x.0 l)
 
     by : (i : ℕ) → start ≤ i → i < start + (part.extent + laid.extent) → (i < start + part.extent) ⊎ (start + part.extent ≤ i)
-        → Right text n start (start + (part.extent + laid.extent)) i ⊎ (AtLeast text n i × (list_any (λ s. s == i) (start ∷ begins (start + part.extent) pieces) ≡ true))
+        → Right text n start (start + (part.extent + laid.extent)) i ⊎ (AtLeast text n i × (list_any (λ s. s == i) (start ∷ piece_starts (start + part.extent) pieces) ≡ true))
     by i a h (inl c) = in_part i (s.each i a c)
     by i a h (inr c) = later text n start part.extent laid.extent pieces i (t.each i c (omega arith))
 

@@ -10,7 +10,7 @@ use Rattle.hr_rules.specs.declared.block.Placed.{Placed}
 use Rattle.hr_rules.specs.Blocks.{role, is_open_brace, opens, goes_on, left_of, ends_block}
 use Rattle.hr_tree.specs.declared.lists.Layout.{Layout}
 use Rattle.hr_grammar.specs.Spans.{BlockSpan}
-use Rattle.hr_grammar.specs.Offside.{column_of, placed_among, begins, is_braced, StandsRight, Next}
+use Rattle.hr_grammar.specs.Offside.{column_of, placed_among, piece_starts, is_braced, StandsRight, Next}
 use Rattle.hr_grammar_cases.proofs.Stretches.{or_false, Has, is_empty_at, Text, lexemes, mark_or, seen, lexemes_at}
 use Rattle.hr_grammar_cases.proofs.Standing.{GoesAt, Braced, Right}
 use Rattle.hr_grammar_cases.proofs.StandingPieces.{AtLeast}
@@ -68,7 +68,7 @@ by_least n col i start begin (inl l) b = inl l
 by_least n col i start begin (inr e) b = inr (inr (e, b))
 
 pub is_right : (text : Text) (block : BlockSpan) (n i : ℕ)
-    → Right text n block.start (block.start + block.extent) i ⊎ (AtLeast text n i × (list_any (λ s. s == i) (begins block.start block.pieces) ≡ true))
+    → Right text n block.start (block.start + block.extent) i ⊎ (AtLeast text n i × (list_any (λ s. s == i) (piece_starts block.start block.pieces) ≡ true))
     → Next (StandsRight text.spans block n i) (drop i (lexemes text))
 is_right text block n i (inl (inl goes)) =
     next_map (λ next. goes_on n next ≡ true) (StandsRight text.spans block n i) (drop i (lexemes text))
@@ -77,7 +77,7 @@ is_right text block n i (inl (inr b)) =
     next_each (StandsRight text.spans block n i) (drop i (lexemes text)) (λ next first braced. let both = sym braced ∙ stands_braced text block i b in let no : ⊥ = cc in elim no [ ])
 is_right text block n i (inr x) =
     next_map (λ next. left_of n next ≡ false) (StandsRight text.spans block n i) (drop i (lexemes text))
-    (λ next g first braced. by_least n next.pos.col i block.start (list_any (λ s. s == i) (begins block.start block.pieces))
+    (λ next g first braced. by_least n next.pos.col i block.start (list_any (λ s. s == i) (piece_starts block.start block.pieces))
     (at_or_right n next.pos.col (ltb-false next.pos.col n (not_left next.first (nat_lt next.pos.col n) g first))) x.1) x.0
 
 -- ---- inner columns exceed outer ones

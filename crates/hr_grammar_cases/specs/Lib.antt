@@ -2,6 +2,7 @@ pub mod Blocks
 pub mod Declarations
 pub mod Derivations
 pub mod Expressions
+pub mod Fronts
 pub mod Imports
 pub mod Laws
 pub mod Modules

@@ -1,4 +1,5 @@
 //! Laws of the relation.
+ghost use Rattle.hr_grammar_cases.specs.Fronts.{FrontsClose};
 ghost use Rattle.hr_grammar_cases.specs.Laws.{ImportsGive, LevelsAre, LevelsGive, ModulesAre, ModulesGive, ModulesStand, ModulesYield, PartsEnd, PatternsGive, PiecesStop, ReadingsShrink, TypesGive};
 ghost use Rattle.hr_grammar_cases.specs.Places.{LevelsWidenPlaces};
 ghost use Rattle.hr_grammar_cases.specs.Widening.{LevelsWiden, ModulesWiden};
@@ -86,4 +87,10 @@ pub fn modules_widen()
 /// declaration at the top, what has no `::` where `::` may stand.
 pub fn places_widen()
     ensures { LevelsWidenPlaces }
+{}
+
+/// Where a block ends behind the pieces that have been read so far, they are the block's pieces; where a last
+/// operand stands behind those that have been read, they are the operands of one sequence.
+pub fn fronts_close()
+    ensures { FrontsClose }
 {}

@@ -4,7 +4,7 @@
 mod laws;
 
 pub use laws::{
-    imports_give, levels_are, levels_give, levels_widen, modules_are, modules_give, modules_stand,
-    modules_widen, modules_yield, parts_end, patterns_give, pieces_stop, places_widen,
-    readings_shrink, types_give, worked_texts,
+    fronts_close, imports_give, levels_are, levels_give, levels_widen, modules_are, modules_give,
+    modules_stand, modules_widen, modules_yield, parts_end, patterns_give, pieces_stop,
+    places_widen, readings_shrink, types_give, worked_texts,
 };

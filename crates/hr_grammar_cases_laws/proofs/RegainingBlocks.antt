@@ -17,7 +17,7 @@ use Rattle.hr_grammar.specs.Blocks.{AreBraced}
 use Rattle.hr_grammar.specs.Words.{IsLeftBrace, IsRightBrace}
 use Rattle.hr_grammar.specs.Nodes.{DeclPlace}
 use Rattle.hr_grammar.specs.Spans.{BlockSpan, Stretch, stretch_length, Laid, block_laid, last_ending}
-use Rattle.hr_grammar.specs.Offside.{column_of, placed_among, begins, is_braced, StandsRight, Next, IsOffside}
+use Rattle.hr_grammar.specs.Offside.{column_of, placed_among, piece_starts, is_braced, StandsRight, Next, IsOffside}
 use Rattle.hr_grammar_cases.specs.Blocks.{Parts, pieces_reading, implicit_reading, layout_reading, block_reading}
 use Rattle.hr_grammar_cases.specs.Laws.{items_left}
 use Rattle.hr_grammar_cases.proofs.Stretches.{Has, has_first, is_empty_at, Text, lexemes, mark_or, seen, lexemes_at, seen_plain, seen_empty}
@@ -68,8 +68,8 @@ one_inside block span i (Layout.Explicit left right) same e =
 
 -- ---- what a block without braces says of its lexemes
 stands_held : (text : Text) (block : BlockSpan) (n i : ℕ) (spans : List BlockSpan) → ((span : BlockSpan) → Has text.spans span → Inside block span i → Has spans span) → (n ≡ column_of (drop block.start (lexemes text)))
-    → (ts : List Placed) → ts ≡ drop i (lexemes text) → (i ≡ block.start → list_any (λ s. s == i) (begins block.start block.pieces) ≡ true) → Next (StandsRight text.spans block n i) ts
-    → (Next (λ next. goes_on n next ≡ true) ts ⊎ Covered spans i) ⊎ (Next (λ next. left_of n next ≡ false) ts × (list_any (λ s. s == i) (begins block.start block.pieces) ≡ true))
+    → (ts : List Placed) → ts ≡ drop i (lexemes text) → (i ≡ block.start → list_any (λ s. s == i) (piece_starts block.start block.pieces) ≡ true) → Next (StandsRight text.spans block n i) ts
+    → (Next (λ next. goes_on n next ≡ true) ts ⊎ Covered spans i) ⊎ (Next (λ next. left_of n next ≡ false) ts × (list_any (λ s. s == i) (piece_starts block.start block.pieces) ≡ true))
 stands_held text block n i spans own column [] e starts s = inl (inl tt)
 stands_held text block n i spans own column (next ∷ ts) e starts s = by next.first refl (is_braced text.spans block i) refl
   where
@@ -95,8 +95,8 @@ stands_held text block n i spans own column (next ∷ ts) e starts s = by next.f
     column_here : i ≡ block.start → next.pos.col ≡ n
     column_here same = ap column_of e ∙ ap (λ k. column_of (drop k (lexemes text))) same ∙ sym column
 
-    from : (n < next.pos.col) ⊎ ((i ≡ block.start) ⊎ ((next.pos.col ≡ n) × (list_any (λ s. s == i) (begins block.start block.pieces) ≡ true)))
-        → ((goes_on n next ≡ true) ⊎ Covered spans i) ⊎ ((left_of n next ≡ false) × (list_any (λ s. s == i) (begins block.start block.pieces) ≡ true))
+    from : (n < next.pos.col) ⊎ ((i ≡ block.start) ⊎ ((next.pos.col ≡ n) × (list_any (λ s. s == i) (piece_starts block.start block.pieces) ≡ true)))
+        → ((goes_on n next ≡ true) ⊎ Covered spans i) ⊎ ((left_of n next ≡ false) × (list_any (λ s. s == i) (piece_starts block.start block.pieces) ≡ true))
     from (inl l) = inl (inl (is_right next.first (nat_lt n next.pos.col) (lt-ltb n next.pos.col l)))
     from (inr (inl same)) = inr (not_left next.first (nat_lt next.pos.col n) (at_column (column_here same)), starts same)
     from (inr (inr x)) = inr (not_left next.first (nat_lt next.pos.col n) (at_column x.0), x.1)
@@ -107,7 +107,7 @@ stands_held text block n i spans own column (next ∷ ts) e starts s = by next.f
         record { span = r.0; among = own r.0 r.1 at; behind = at.behind; before = at.before }
 
     by : (first : Bool) → next.first ≡ first → (braced : Bool) → is_braced text.spans block i ≡ braced
-        → ((goes_on n next ≡ true) ⊎ Covered spans i) ⊎ ((left_of n next ≡ false) × (list_any (λ s. s == i) (begins block.start block.pieces) ≡ true))
+        → ((goes_on n next ≡ true) ⊎ Covered spans i) ⊎ ((left_of n next ≡ false) × (list_any (λ s. s == i) (piece_starts block.start block.pieces) ≡ true))
     by false f braced b = inl (inl (not_first next.first (nat_lt n next.pos.col) f))
     by true f true b = inl (inr (in_braces_there b))
     by true f false b = from (s f b)
@@ -152,9 +152,9 @@ clear_inside : (span : BlockSpan) (spans : List BlockSpan) (rest : List Item) �
 clear_inside span spans rest (inl e) = elim (no_spans e) [ ]
 clear_inside span spans rest (inr nb) = nb
 
-begins_start : (text : Text) (start i : ℕ) (pieces : List Stretch) → pieces ≢ [] → i ≡ start → list_any (λ s. s == i) (begins start pieces) ≡ true
+begins_start : (text : Text) (start i : ℕ) (pieces : List Stretch) → pieces ≢ [] → i ≡ start → list_any (λ s. s == i) (piece_starts start pieces) ≡ true
 begins_start text start i [] some same = absurd (some refl)
-begins_start text start i (piece ∷ pieces) some same = ap (λ t. t || list_any (λ s. s == i) (begins (start + stretch_length piece) pieces)) (eq-eqb start i (sym same))
+begins_start text start i (piece ∷ pieces) some same = ap (λ t. t || list_any (λ s. s == i) (piece_starts (start + stretch_length piece) pieces)) (eq-eqb start i (sym same))
 
 some_pieces : {T : Type 0} (of : T → Laid) (pieces : List (Piece T)) (i start : ℕ) → start ≤ i → i < start + (pieces_laid of pieces).extent → stretches of pieces ≢ []
 some_pieces of [] i start l h = λ e. let no : ⊥ = omega arith in no

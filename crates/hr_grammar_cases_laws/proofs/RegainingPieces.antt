@@ -15,7 +15,7 @@ use Rattle.hr_grammar.specs.Words.{IsSemicolon}
 use Rattle.hr_grammar.specs.Blocks.{PartsAreSeparated}
 use Rattle.hr_grammar.specs.Nodes.{DeclPlace}
 use Rattle.hr_grammar.specs.Spans.{BlockSpan, Stretch, stretch_length, Laid}
-use Rattle.hr_grammar.specs.Offside.{IsAtMargin, PartsBegin, begins, placed_among, Next}
+use Rattle.hr_grammar.specs.Offside.{IsAtMargin, PartsBegin, piece_starts, placed_among, Next}
 use Rattle.hr_grammar_cases.specs.Readings.{inside}
 use Rattle.hr_grammar_cases.specs.Blocks.{Parts, takes_semicolon, pieces_reading, braced_reading}
 use Rattle.hr_grammar_cases.specs.Laws.{items_left}
@@ -89,28 +89,28 @@ pieces_lie {of = of} p n place (Piece.Part part ∷ pieces) fit start span has =
 -- ---- with which lexemes pieces begin
 -- the lexeme is not left of the column, and a piece begins with it
 abbrev pub PieceAt : Text → ℕ → ℕ → List Stretch → ℕ → Type 0
-PieceAt text n start pieces i = AtLeast text n i × (list_any (λ s. s == i) (begins start pieces) ≡ true)
+PieceAt text n start pieces i = AtLeast text n i × (list_any (λ s. s == i) (piece_starts start pieces) ≡ true)
 
-begins_behind : (pieces : List Stretch) (start i : ℕ) → list_any (λ s. s == i) (begins start pieces) ≡ true → start ≤ i
+begins_behind : (pieces : List Stretch) (start i : ℕ) → list_any (λ s. s == i) (piece_starts start pieces) ≡ true → start ≤ i
 begins_behind [] start i e = let no : ⊥ = cc in elim no [ ]
 begins_behind (piece ∷ pieces) start i e = by (start == i) refl (begins_behind pieces (start + stretch_length piece) i)
   where
-    by : (t : Bool) → (start == i) ≡ t → (list_any (λ s. s == i) (begins (start + stretch_length piece) pieces) ≡ true → start + stretch_length piece ≤ i) → start ≤ i
+    by : (t : Bool) → (start == i) ≡ t → (list_any (λ s. s == i) (piece_starts (start + stretch_length piece) pieces) ≡ true → start + stretch_length piece ≤ i) → start ≤ i
     by true same later = let f = eqb-true start i same in omega arith
     by false same later =
-        let rest = later (sym (ap (λ t. t || list_any (λ s. s == i) (begins (start + stretch_length piece) pieces)) same) ∙ e) in omega arith
+        let rest = later (sym (ap (λ t. t || list_any (λ s. s == i) (piece_starts (start + stretch_length piece) pieces)) same) ∙ e) in omega arith
 
 -- the first piece alone begins inside it, and the others behind it
-begins_first : (pieces : List Stretch) (start e i : ℕ) → i < start + e → list_any (λ s. s == i) (start ∷ begins (start + e) pieces) ≡ true → i ≡ start
+begins_first : (pieces : List Stretch) (start e i : ℕ) → i < start + e → list_any (λ s. s == i) (start ∷ piece_starts (start + e) pieces) ≡ true → i ≡ start
 begins_first pieces start e i l b = by (start == i) refl
   where
     by : (t : Bool) → (start == i) ≡ t → i ≡ start
     by true same = sym (eqb-true start i same)
-    by false same = let h = begins_behind pieces (start + e) i (sym (ap (λ t. t || list_any (λ s. s == i) (begins (start + e) pieces)) same) ∙ b) in let no : ⊥ = omega arith in elim no [ ]
+    by false same = let h = begins_behind pieces (start + e) i (sym (ap (λ t. t || list_any (λ s. s == i) (piece_starts (start + e) pieces)) same) ∙ b) in let no : ⊥ = omega arith in elim no [ ]
 
-begins_later : (pieces : List Stretch) (start e i : ℕ) → e ≢ 0 → start + e ≤ i → list_any (λ s. s == i) (start ∷ begins (start + e) pieces) ≡ true → list_any (λ s. s == i) (begins (start + e) pieces) ≡ true
+begins_later : (pieces : List Stretch) (start e i : ℕ) → e ≢ 0 → start + e ≤ i → list_any (λ s. s == i) (start ∷ piece_starts (start + e) pieces) ≡ true → list_any (λ s. s == i) (piece_starts (start + e) pieces) ≡ true
 begins_later pieces start e i some l b =
-    sym (ap (λ t. t || list_any (λ s. s == i) (begins (start + e) pieces)) (ne_eqb start i (apart e some l))) ∙ b
+    sym (ap (λ t. t || list_any (λ s. s == i) (piece_starts (start + e) pieces)) (ne_eqb start i (apart e some l))) ∙ b
   where
     apart : (k : ℕ) → k ≢ 0 → start + k ≤ i → start ≢ i
     apart zero o h = absurd (o refl)
@@ -146,10 +146,10 @@ Margin n [] rest = Unit {0}
 Margin n (Stretch.Semicolon ∷ pieces) rest = Unit {0}
 Margin n (Stretch.Part k ∷ pieces) rest = IsAtMargin n rest
 
-margin_behind : (n k : ℕ) (pieces : List Stretch) (rest : List Placed) → PartsBegin n (Stretch.Part k ∷ pieces) rest → Margin n pieces (drop k rest) × PartsBegin n pieces (drop k rest)
-margin_behind n k [] rest p = (tt, tt)
-margin_behind n k (Stretch.Semicolon ∷ pieces) rest p = (tt, p)
-margin_behind n k (Stretch.Part j ∷ pieces) rest p = p
+margin_behind : (n start k : ℕ) (pieces : List Stretch) (ts : List Placed) → PartsBegin n ts start (Stretch.Part k ∷ pieces) → Margin n pieces (drop (start + k) ts) × PartsBegin n ts (start + k) pieces
+margin_behind n start k [] ts p = (tt, tt)
+margin_behind n start k (Stretch.Semicolon ∷ pieces) ts p = (tt, p)
+margin_behind n start k (Stretch.Part j ∷ pieces) ts p = p
 
 margin_seen : (n : ℕ) (spans : List BlockSpan) (i : ℕ) (placed : List Placed) → IsAtMargin n (placed_among spans i placed) → IsAtMargin n (mark_or (is_empty_at spans i) placed)
 margin_seen n spans i [] m = m
@@ -205,7 +205,7 @@ closed_here n kind ending ts us same none = subst (λ l. ends_block n kind endin
 pub pieces_regain : {T : Type 0} {text : Text} {of : T → Laid} {items_of : T → List Item} {parts : Parts T} {Fits : DeclPlace → DeclPlace → T → Type 0} → PartsRegain text of items_of parts Fits
     → (kind : BlockKind) (n : ℕ) (place : DeclPlace) (ending : Ending) (pieces : List (Piece T)) → PiecesFit Fits place pieces → (start : ℕ) (rest : List Item)
     → Given text n false start (pieces_laid of pieces) (flat_map (piece_items items_of) pieces) rest (PieceAt text n start (stretches of pieces))
-    → PartsBegin n (stretches of pieces) (drop start (lexemes text)) → (ending ≡ Ending.Nothing) ⊎ Margin n (stretches of pieces) (drop start (lexemes text))
+    → PartsBegin n (lexemes text) start (stretches of pieces) → (ending ≡ Ending.Nothing) ⊎ Margin n (stretches of pieces) (drop start (lexemes text))
     → Closes of parts Fits kind n ending pieces (seen text false (start + (pieces_laid of pieces).extent))
     → pieces_reading parts kind n place ending pieces (seen text false start) (seen text false (start + (pieces_laid of pieces).extent))
 pieces_regain {text = text} {of = of} {parts = parts} {Fits = Fits} p kind n place ending [] fit start rest k begin ready closes = (by closes, same)
@@ -230,7 +230,7 @@ pieces_regain {text = text} {of = of} {items_of = items_of} {parts = parts} {Fit
       seen text false (start + 1),
       (fit.0, semicolon_here text n item (flat_map (piece_items items_of) pieces ++ rest) start (seen text false (start + 1)) k.items_are least (sym (seen_plain text (start + 1) none))),
       subst (λ i. pieces_reading parts kind n place Ending.Nothing pieces (seen text false (start + 1)) (seen text false i)) same
-          (pieces_regain p kind n place Ending.Nothing pieces fit.1 (start + 1) rest later (subst (PartsBegin n (stretches of pieces)) (drop-drop 1 start (lexemes text)) begin) (inl refl)
+          (pieces_regain p kind n place Ending.Nothing pieces fit.1 (start + 1) rest later begin (inl refl)
           (subst (λ i. Closes of parts Fits kind n Ending.Nothing pieces (seen text false i)) (sym same) closes)),
     )
 pieces_regain {text = text} {of = of} {items_of = items_of} {parts = parts} {Fits = Fits} p kind n place ending (Piece.Part part ∷ pieces) fit start rest k begin ready closes =
@@ -248,8 +248,7 @@ pieces_regain {text = text} {of = of} {items_of = items_of} {parts = parts} {Fit
     (λ i l x. (x.0, begins_later (stretches of pieces) start (of part).extent i some l x.1)) k in
     let r = one_part.regains true start (flat_map (piece_items items_of) pieces ++ rest) first in
     let here = subst (λ (b : Bool). parts n place next part r.0 (seen text true start) (seen text b (start + (of part).extent))) (still_ended (of part).extent some) r.1 in
-    let behind = margin_behind n (of part).extent (stretches of pieces) (drop start (lexemes text)) begin in
-    let to = drop-drop (of part).extent start (lexemes text) in
+    let behind = margin_behind n start (of part).extent (stretches of pieces) (lexemes text) begin in
     let same = add_assoc start (of part).extent others.extent in (
       seen text true start,
       (
@@ -263,8 +262,8 @@ pieces_regain {text = text} {of = of} {items_of = items_of} {parts = parts} {Fit
           seen text false (start + (of part).extent),
           here,
           subst (λ i. pieces_reading parts kind n next r.0 pieces (seen text false (start + (of part).extent)) (seen text false i)) same
-              (pieces_regain p kind n next r.0 pieces fit.2 (start + (of part).extent) rest later (subst (PartsBegin n (stretches of pieces)) to behind.1)
-              (inr (subst (Margin n (stretches of pieces)) to behind.0))
+              (pieces_regain p kind n next r.0 pieces fit.2 (start + (of part).extent) rest later behind.1
+              (inr behind.0)
               (subst (λ i. Closes of parts Fits kind n r.0 pieces (seen text false i)) (sym same) (turned r.0 (seen text false (start + (of part).extent)) here closes))),
         ),
       ),
