@@ -1,8 +1,7 @@
 -- The reader of lines finds a command exactly where the line is one.
-use Rattle.std.proofs.Common.{◌≡◌, inl, ℕ, ◌+◌, ◌<◌, ◌==◌, Bool, true, false, cond, ◌&&◌, not, nat_lt, List, [], ◌∷◌, ◌++◌, All, length, get_or, Option, Some, None, refl, sym, ap, subst, ◌∙◌, true≢false, arith}
+use Rattle.std.proofs.Common.{◌≡◌, inl, ℕ, ◌<◌, ◌==◌, Bool, true, false, cond, ◌&&◌, nat_lt, List, [], ◌∷◌, get_or, Option, Some, None, refl, sym, ap, subst, ◌∙◌, arith}
 use Rattle.std.specs.List.{list_all, join_with_byte, find, AllByRecursion}
 use Rattle.std.specs.Option.{option_map, option_and_then}
-use Rattle.std.specs.Str.{bytes_eq}
 use Rattle.std.proofs.lemmas.Bool.{ne_eqb}
 use Rattle.std.proofs.lemmas.Bool.Decides.{nat_tests}
 use Rattle.std.proofs.lemmas.List.Elements.{All-append, All-cons}
@@ -17,7 +16,7 @@ use Rattle.hr_script.specs.declared.command.Command.TheVariants.{Rename, AddPara
 use Rattle.hr_script.specs.declared.command.Verb.{Verb}
 use Rattle.hr_script.specs.declared.command.Verb.TheVariants as verb
 use Rattle.hr_script.specs.Texts.{is_module_name, is_word}
-use Rattle.hr_script.specs.Language.{verb_of, verb_word, pos_word, texts_of, line_of, IsNumber, IsPosition, IsSpot, IsSpeakable, IsCommandLine}
+use Rattle.hr_script.specs.Language.{verb_of, verb_word, pos_word, texts_of, line_of, IsSpot, IsSpeakable, IsCommandLine}
 use Rattle.hr_script.specs.Reader.{verbs, has_word, verb_named, pieces, when, number_of, pos_of, spot_of, at_spot, of_two, with_text, of_three, alone, command_in}
 use Rattle.hr_script.proofs.Letters.{both, both_left, both_right, word_lacks, module_lacks}
 use Rattle.hr_script.proofs.Numerals.{when_some, some_same, number_is, number_there, pos_is, pos_there, pos_lacks, decimal_lacks}

@@ -1,5 +1,5 @@
 -- A command has one, three or four words.
-use Rattle.std.proofs.Common.{◌≡◌, ℕ, ◌<◌, ◌≤◌, List, [], ◌∷◌, length, map, Option, Some, None, refl, arith}
+use Rattle.std.proofs.Common.{◌≡◌, ℕ, ◌<◌, ◌≤◌, List, [], ◌∷◌, length, map, Option, None, refl, arith}
 use Rattle.hr_script.specs.declared.command.Command.{Command}
 use Rattle.hr_script.specs.Reader.{command_in}
 

@@ -1,5 +1,5 @@
 -- Words with a space before each.
-use Rattle.std.proofs.Common.{◌≡◌, ℕ, List, [], ◌∷◌, ◌++◌, refl, sym, ap, ◌∙◌, append-nil, append_assoc}
+use Rattle.std.proofs.Common.{◌≡◌, ℕ, List, [], ◌∷◌, ◌++◌, ap, append-nil}
 use Rattle.std.specs.List.{join_with_byte}
 
 abbrev pub spaced : List (List ℕ) → List ℕ

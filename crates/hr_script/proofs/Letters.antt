@@ -1,7 +1,7 @@
 -- No blank stands in a word or in a module's name, not even as a byte.
-use Rattle.std.proofs.Common.{◌≡◌, ℕ, ◌<◌, ◌==◌, Bool, true, false, not, ◌&&◌, ◌||◌, List, [], ◌∷◌, length, get_or, refl, sym, ap, subst, ◌∙◌, true≢false, arith}
+use Rattle.std.proofs.Common.{◌≡◌, ℕ, ◌<◌, Bool, true, false, not, ◌&&◌, ◌||◌, List, [], ◌∷◌, refl, sym, ap, ◌∙◌, true≢false, arith}
 use Rattle.std.specs.List.{list_all, list_any}
-use Rattle.std.specs.Str.{chars, is_utf8, NonePass, NoCharPasses, IsUtf8}
+use Rattle.std.specs.Str.{chars, is_utf8, NonePass}
 use Rattle.std.proofs.lemmas.Str.{NoCharPasses-byte, IsUtf8-from_is_utf8, encodes-chars}
 use Rattle.hr_rules.specs.declared.character.Kind.{Kind}
 use Rattle.hr_rules.specs.Letters.{kind_of, is_in_name, is_blank, is_blank_kind, continues_name}

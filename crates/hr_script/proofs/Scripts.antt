@@ -1,6 +1,6 @@
 -- Lines of a script: which commands they are, and that what is written is read again.
-use Rattle.std.proofs.Common.{◌≡◌, inl, inr, ℕ, ◌+◌, ◌-◌, ◌<◌, ◌≤◌, ◌==◌, Bool, true, false, not, cond, suc, Option, Some, None, ◌&&◌, ◌||◌, List, [], ◌∷◌, ◌++◌, All, length, take, drop, get_or, refl, sym, ap, subst, ◌∙◌, true≢false, arith, append_assoc, append-nil, length-append}
-use Rattle.std.specs.List.{list_all, slice_split, join_with_byte, position, position_or_len, before_first, after_first, AllByRecursion}
+use Rattle.std.proofs.Common.{◌≡◌, inl, inr, ℕ, ◌+◌, ◌-◌, ◌<◌, ◌≤◌, ◌==◌, Bool, true, false, not, cond, Option, Some, None, ◌&&◌, List, [], ◌∷◌, ◌++◌, length, take, drop, refl, sym, ap, subst, ◌∙◌, true≢false, arith, append_assoc, append-nil, length-append}
+use Rattle.std.specs.List.{slice_split, position, position_or_len, before_first, after_first, AllByRecursion}
 use Rattle.std.specs.Str.{is_utf8}
 use Rattle.std.specs.Str.Lines.{lines, lines_of_parts, strip_carriage_return}
 use Rattle.std.proofs.lemmas.Bool.{ne_eqb}
@@ -10,7 +10,7 @@ use Rattle.std.proofs.lemmas.Bool.Decides.{nat_tests}
 use Rattle.hr_rules.specs.Letters.{is_blank, kind_of}
 use Rattle.hr_script.specs.declared.command.Command.{Command}
 use Rattle.hr_script.specs.declared.command.Command.TheVariants.{Rename, AddParameter, RemoveParameter, LiftOne, LiftTop, Demote, Generalise, Move, Abstract, Undo}
-use Rattle.hr_script.specs.Language.{line_of, IsSpeakable, IsCommandLine, begins_comment, is_linefeed, is_space, is_skipped, AreLines, Script, IsLine, written}
+use Rattle.hr_script.specs.Language.{line_of, IsSpeakable, IsCommandLine, is_linefeed, is_skipped, AreLines, Script, IsLine, written}
 use Rattle.hr_script.specs.Language.AreLines.{ends, skips, commands}
 use Rattle.hr_script.specs.Laws.{IsFirstBad, IsMemory}
 use Rattle.hr_script.specs.Reader.{command_in, pieces}

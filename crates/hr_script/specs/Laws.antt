@@ -1,11 +1,11 @@
 -- What `parse_script` answers, and laws of the script language.
-use Rattle.std.specs.Prelude.{◌≡◌, ℕ, ◌+◌, ◌≤◌, ◌<◌, List, [], ◌∷◌, ◌++◌, length}
+use Rattle.std.specs.Prelude.{◌≡◌, ℕ, ◌+◌, ◌≤◌, ◌<◌, List, ◌∷◌, ◌++◌, length}
 use Rattle.std.specs.List.{AllByRecursion}
 use Rattle.std.specs.Str.Lines.{lines}
 use Rattle.hr_script.specs.declared.command.Command.{Command}
 use Rattle.hr_script.specs.declared.error.ScriptError.{ScriptError}
 use Rattle.hr_script.specs.declared.error.ScriptError.TheVariants.{BadLine, TooManySteps, Memory}
-use Rattle.hr_script.specs.Language.{Script, AreLines, IsLine, IsSpeakable, written}
+use Rattle.hr_script.specs.Language.{Script, IsLine, IsSpeakable, written}
 
 -- as many commands as a script may have
 abbrev pub step_limit : ℕ

@@ -1,4 +1,4 @@
-use Rattle.std.proofs.Common.{◌≡◌, ◌∷◌, ◌+◌, ap, sym, ◌∙◌, arith, drop, take, length}
+use Rattle.std.proofs.Common.{◌∷◌, ◌+◌, ap, sym, ◌∙◌, arith, drop, length}
 use Rattle.std.specs.Str.Lines.{lines, strip_carriage_return}
 use Rattle.std.proofs.lemmas.Bool.{eqb-false}
 use Rattle.hr_script.proofs.Scripts.{line_found, line_left}

@@ -1,4 +1,4 @@
-use Rattle.std.proofs.Common.{◌≡◌, inr, sym, ap, ◌∙◌}
+use Rattle.std.proofs.Common.{inr, sym, ◌∙◌}
 use Rattle.hr_script.proofs.Commands.{line_is}
 use Rattle.hr_script.proofs.Scripts.{line_not}
 use Rattle.hr_script.proofs.reading.add_line.Goals as goal

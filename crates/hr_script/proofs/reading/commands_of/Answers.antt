@@ -1,7 +1,7 @@
-use Rattle.std.proofs.Common.{◌≡◌, ◌+◌, rules, sym, ap, subst, ◌∙◌, arith}
+use Rattle.std.proofs.Common.{◌≡◌, ◌+◌, sym, subst}
 use Rattle.hr_script.specs.Laws.{IsFirstBad}
 use Rattle.hr_script.specs.Progress.{Progress, Adds}
-use Rattle.hr_script.proofs.Scripts.{begun, goes_on, stops_at, all_read}
+use Rattle.hr_script.proofs.Scripts.{begun, goes_on, stops_at}
 use Rattle.hr_script.proofs.reading.commands_of.Goals as goal
 
 pub loop-line-init : goal.loop-line-init

@@ -1,4 +1,4 @@
-use Rattle.std.proofs.Common.{◌≡◌, sym, ap, subst, ◌∙◌, arith, length}
+use Rattle.std.proofs.Common.{ap, arith, length}
 use Rattle.hr_script.proofs.Scripts.{one_script_lem, refused_lem}
 use Rattle.hr_script.proofs.reading.parse_script.Goals as goal
 

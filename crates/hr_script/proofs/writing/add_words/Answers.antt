@@ -1,4 +1,4 @@
-use Rattle.std.proofs.Common.{◌≡◌, ◌++◌, ap, sym, ◌∙◌, map, append_assoc}
+use Rattle.std.proofs.Common.{◌++◌, ap, ◌∙◌, map, append_assoc}
 use Rattle.hr_script.specs.Language.{verb_word}
 use Rattle.hr_script.proofs.Joined.{spaced, joined}
 use Rattle.hr_script.proofs.writing.add_words.Goals as goal
