@@ -1,10 +1,12 @@
 -- The report of a run, as bytes: one line for the command, then what changed or what went wrong.
 use Rattle.std.specs.Prelude.{ℕ, List, [], ◌∷◌, ◌++◌, codes, Option, Some, None}
 use Rattle.std.specs.Fmt.{decimal}
+use Rattle.std.specs.Option.{option_map}
 use Rattle.hr_base.specs.declared.place.Pos.{Pos}
 use Rattle.hr_lexer.specs.declared.error.LexError.{LexError}
 use Rattle.hr_plain.specs.declared.loading.LoadError.{LoadError}
 use Rattle.hr_plain.specs.declared.renaming.Why.{Why}
+use Rattle.hr_plain.specs.Renaming.{number_of}
 use Rattle.hare.specs.Words.{Renaming}
 
 -- a line: the text and a linefeed (10)
@@ -33,7 +35,7 @@ unlexed file (LexError.Memory _) = None
 
 abbrev pub not_accepted : Renaming → LoadError → Option (List ℕ)
 not_accepted renaming (LoadError.Lex text error) = unlexed renaming.file error
-not_accepted renaming (LoadError.NotBuilt text) = Some (cause (codes "25") (line renaming.file))
+not_accepted renaming (LoadError.NotPlain text) = Some (cause (codes "25") (line renaming.file))
 not_accepted renaming (LoadError.Memory _) = None
 
 abbrev pub read_fault : Renaming → List ℕ
@@ -59,14 +61,19 @@ unchanged = 10 ∷ line (codes "changed 0")
 abbrev pub place_then : List ℕ → Pos → List ℕ → List ℕ
 place_then module_name pos behind = module_name ++ (58 ∷ (decimal pos.line ++ (58 ∷ (decimal pos.col ++ behind))))
 
--- no name begins where the renaming looks for one
-abbrev pub nothing_at : List ℕ → Pos → List ℕ
-nothing_at module_name pos = codes "1 rename: refused 31 " ++ place_then module_name pos unchanged
+-- a step's refusal: its number, and what is shown behind it
+abbrev pub refusal : ℕ → List ℕ → List ℕ
+refusal number behind = codes "1 rename: refused " ++ (decimal number ++ behind)
 
--- the refusal's number and its fields; nothing for want of memory
+-- behind a blank (32) where the renaming looks for a name
+abbrev pub sought_then : Renaming → List ℕ → List ℕ
+sought_then renaming behind = 32 ∷ place_then renaming.module_name renaming.pos behind
+
+-- what is shown behind the number
+abbrev pub behind_number : Renaming → Why → List ℕ
+behind_number renaming (Why.NoSuchThing _) = sought_then renaming unchanged
+behind_number renaming _ = unchanged
+
+-- a step that is refused; nothing for want of memory
 abbrev pub refused : Renaming → Why → Option (List ℕ)
-refused renaming (Why.NoSuchThing _) = Some (nothing_at renaming.module_name renaming.pos)
-refused renaming Why.WrongForm = Some (codes "1 rename: refused 33" ++ unchanged)
-refused renaming Why.NotBuilt = Some (codes "1 rename: refused 58" ++ unchanged)
-refused renaming Why.OverLimit = Some (codes "1 rename: refused 57" ++ unchanged)
-refused renaming (Why.Memory _) = None
+refused renaming why = option_map (λ number. refusal number (behind_number renaming why)) (number_of why)

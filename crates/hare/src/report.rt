@@ -26,8 +26,8 @@ pub fn not_accepted(
 {
     let file = command.file;
     match error {
-        LoadError::Lex { text: _, error } => unlexed(alloc, file, error),
-        LoadError::NotBuilt { text: _ } => format!(in alloc; "not accepted: 25 {file}\n"),
+        LoadError::Lex { error, .. } => unlexed(alloc, file, error),
+        LoadError::NotPlain { .. } => format!(in alloc; "not accepted: 25 {file}\n"),
         LoadError::Memory(error) => Err(*error),
     }
 }
@@ -80,21 +80,26 @@ pub fn write_fault(alloc: Global, command: Renaming<'_>) -> Result<String, Alloc
 pub fn refused(alloc: Global, command: Renaming<'_>, why: &Why) -> Result<String, AllocError>
     ensures { IfOk result (λ text. Some (string_bytes text) ≡ spec.refused (shown command.entry) why.now) }
 {
+    let number = why.number().ok_or(AllocError)?;
     match why {
-        Why::NoSuchThing { at: _ } => nothing_at(alloc, command),
-        Why::WrongForm => String::from_str(alloc, "1 rename: refused 33\nchanged 0\n"),
-        Why::NotBuilt => String::from_str(alloc, "1 rename: refused 58\nchanged 0\n"),
-        Why::OverLimit => String::from_str(alloc, "1 rename: refused 57\nchanged 0\n"),
-        Why::Memory(error) => Err(*error),
+        Why::NoSuchThing { .. } => nothing_at(alloc, command, number),
+        _ => numbered(alloc, number),
     }
 }
 
+/// A refusal that shows its number alone.
+fn numbered(alloc: Global, number: u32) -> Result<String, AllocError>
+    ensures { IfOk result (λ text. string_bytes text ≡ spec.refusal number spec.unchanged) }
+{
+    format!(in alloc; "1 rename: refused {number}\nchanged 0\n")
+}
+
 /// No name begins where the command looks for one.
-fn nothing_at(alloc: Global, command: Renaming<'_>) -> Result<String, AllocError>
-    ensures { IfOk result (λ text. string_bytes text ≡ spec.nothing_at command.entry.«module».now command.entry.pos) }
+fn nothing_at(alloc: Global, command: Renaming<'_>, number: u32) -> Result<String, AllocError>
+    ensures { IfOk result (λ text. string_bytes text ≡ spec.refusal number (spec.sought_then (shown command.entry) spec.unchanged)) }
 {
     let name = command.module;
     let line = command.pos.line;
     let col = command.pos.col;
-    format!(in alloc; "1 rename: refused 31 {name}:{line}:{col}\nchanged 0\n")
+    format!(in alloc; "1 rename: refused {number} {name}:{line}:{col}\nchanged 0\n")
 }

@@ -38,7 +38,7 @@ use Rattle.hr_plain.proofs.Renames.{renamed}
 -- texts
 module _ (bytes : List ℕ) where
   abbrev TreeOrNot : Type 0
-  TreeOrNot = ((tree : Module) × IsPlain bytes tree) ⊎ (((error : LexError) × IsCause bytes error) ⊎ IsLoadRefusal bytes (LoadError.NotBuilt 0))
+  TreeOrNot = ((tree : Module) × IsPlain bytes tree) ⊎ (((error : LexError) × IsCause bytes error) ⊎ IsLoadRefusal bytes (LoadError.NotPlain 0))
 
   module _ (items : Items) (lexes : LexesText bytes items) where
     by_scoped : are_plain items ≡ true → (equations : List Equation) → equations_of items.list ≡ Some equations → (b : Bool) → are_scoped equations ≡ b → TreeOrNot

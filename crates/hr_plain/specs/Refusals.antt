@@ -10,6 +10,6 @@ use Rattle.hr_plain.specs.Form.{IsPlain}
 -- the lexer refuses the text; or it has items, and no tree of the form; the one text has the number 0
 abbrev pub IsLoadRefusal : List ℕ → LoadError → Type 0
 IsLoadRefusal bytes (LoadError.Lex text error) = (text ≡ 0) × IsCause bytes error
-IsLoadRefusal bytes (LoadError.NotBuilt text) =
+IsLoadRefusal bytes (LoadError.NotPlain text) =
     (text ≡ 0) × ((items : Items) × LexesText bytes items) × ((tree : Module) → ¬ (IsPlain bytes tree))
 IsLoadRefusal bytes (LoadError.Memory _) = Unit {0}

@@ -12,22 +12,23 @@ use hr_plain_tree::Module;
 use std::alloc::{AllocError, Global};
 use thiserror::Error;
 
-/// Why the text of that number, from 0, is not read.
+/// Why the text of that number, from 0, is not read. There is one text, of the number 0, until a
+/// project has several.
 #[derive(Debug, Drop, Error)]
 pub enum LoadError {
     #[error("text {text}: {error}")]
     Lex { text: usize, error: LexError },
     #[error("text {text} is not of the plain form")]
-    NotBuilt { text: usize },
+    NotPlain { text: usize },
     #[error("out of memory")]
     Memory(AllocError),
 }
 
 /// The refusal of the one text that has items and isn't of the form.
-fn not_built() -> LoadError
-    ensures { result ≡ LoadError.NotBuilt 0 }
+fn not_plain() -> LoadError
+    ensures { result ≡ LoadError.NotPlain 0 }
 {
-    LoadError::NotBuilt { text: 0 }
+    LoadError::NotPlain { text: 0 }
 }
 
 /// The lexer's refusal of the one text.
@@ -50,16 +51,16 @@ pub fn load(alloc: Global, bytes: &[u8]) -> Result<Module, LoadError>
         Err(error) => return Err(unread(error)),
     };
     if !are_plain(&items) {
-        return Err(not_built());
+        return Err(not_plain());
     }
     let Items { list, tail } = items;
     let equations = match equations(alloc, list).map_err(LoadError::Memory)? {
         Some(equations) => equations,
-        None => return Err(not_built()),
+        None => return Err(not_plain()),
     };
     if are_scoped(alloc, equations.as_slice()).map_err(LoadError::Memory)? {
         Ok(Module { equations, tail })
     } else {
-        Err(not_built())
+        Err(not_plain())
     }
 }

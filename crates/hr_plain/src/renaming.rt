@@ -12,7 +12,8 @@ use hr_plain_tree::{Module, at};
 use hr_rules::join;
 use std::alloc::{AllocError, Global};
 
-/// What a command looks for: a thing at a place, or one of a name.
+/// What a command looks for: a thing at a place, or one of a name. No command of the plain form looks
+/// for a name.
 #[derive(Debug, Drop, PartialEq, Eq)]
 pub enum Sought {
     At(Place),
@@ -22,9 +23,13 @@ pub enum Sought {
 /// Why a step is refused.
 #[derive(Debug, Drop, PartialEq, Eq)]
 pub enum Why {
+    /// Nothing of the kind is there.
     NoSuchThing { at: Sought },
+    /// The new name is no variable.
     WrongForm,
+    /// Some lexeme has the new name as its text, which the plain form doesn't tell apart.
     NotBuilt,
+    /// The new text is too long.
     OverLimit,
     Memory(AllocError),
 }
