@@ -9,6 +9,6 @@ use Rattle.hare.specs.Words.{Renaming}
 pub shows_number : (renaming : Renaming) (why : Why) → ((at : Sought) → why ≡ Why.NoSuchThing at → ⊥) → behind_number renaming why ≡ unchanged
 shows_number renaming (Why.NoSuchThing sought) other = absurd (other sought refl)
 shows_number renaming Why.WrongForm other = refl
-shows_number renaming Why.NotBuilt other = refl
+shows_number renaming Why.NameInUse other = refl
 shows_number renaming Why.OverLimit other = refl
 shows_number renaming (Why.Memory error) other = refl

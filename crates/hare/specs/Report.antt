@@ -3,9 +3,9 @@ use Rattle.std.specs.Prelude.{ℕ, List, [], ◌∷◌, ◌++◌, codes, Option,
 use Rattle.std.specs.Fmt.{decimal}
 use Rattle.std.specs.Option.{option_map}
 use Rattle.hr_base.specs.declared.place.Pos.{Pos}
-use Rattle.hr_lexer.specs.declared.error.LexError.{LexError}
 use Rattle.hr_plain.specs.declared.loading.LoadError.{LoadError}
 use Rattle.hr_plain.specs.declared.renaming.Why.{Why}
+use Rattle.hr_plain.specs.Refusals.{load_number, load_place}
 use Rattle.hr_plain.specs.Renaming.{number_of}
 use Rattle.hare.specs.Words.{Renaming}
 
@@ -16,27 +16,18 @@ line text = text ++ (10 ∷ [])
 abbrev pub bad_words : List ℕ
 bad_words = line (codes "words: refused")
 
--- the number of a cause, and what shows it, behind a blank (32)
-abbrev pub cause : List ℕ → List ℕ → List ℕ
-cause number shown = codes "not accepted: " ++ (number ++ (32 ∷ shown))
+-- why a file is not accepted: the number of the cause, and what is shown of it behind a blank (32)
+abbrev pub cause : ℕ → List ℕ → List ℕ
+cause number shown = codes "not accepted: " ++ (decimal number ++ (32 ∷ shown))
 
--- a file, a place in it, and the line's end
-abbrev pub at_place : List ℕ → ℕ → List ℕ
-at_place file place = file ++ (32 ∷ line (decimal place))
+-- the file, with the place in bytes from 0 where there is one, and the line's end
+abbrev pub placed : List ℕ → Option ℕ → List ℕ
+placed file None = line file
+placed file (Some place) = file ++ (32 ∷ line (decimal place))
 
--- why the lexer refuses the file: its number, and the place in bytes from 0; nothing for want of memory
-abbrev pub unlexed : List ℕ → LexError → Option (List ℕ)
-unlexed file LexError.TooLong = Some (cause (codes "5") (line file))
-unlexed file (LexError.BadUtf8 place) = Some (cause (codes "1") (at_place file place))
-unlexed file (LexError.OpenComment place) = Some (cause (codes "3") (at_place file place))
-unlexed file (LexError.LiteralTooWide place) = Some (cause (codes "4") (at_place file place))
-unlexed file (LexError.BadLexeme place) = Some (cause (codes "2") (at_place file place))
-unlexed file (LexError.Memory _) = None
-
+-- a file that is not accepted; nothing for want of memory
 abbrev pub not_accepted : Renaming → LoadError → Option (List ℕ)
-not_accepted renaming (LoadError.Lex text error) = unlexed renaming.file error
-not_accepted renaming (LoadError.NotPlain text) = Some (cause (codes "25") (line renaming.file))
-not_accepted renaming (LoadError.Memory _) = None
+not_accepted renaming error = option_map (λ number. cause number (placed renaming.file (load_place error))) (load_number error)
 
 abbrev pub read_fault : Renaming → List ℕ
 read_fault renaming = line (codes "read fault: " ++ renaming.file)

@@ -28,7 +28,7 @@ pub enum Why {
     /// The new name is no variable.
     WrongForm,
     /// Some lexeme has the new name as its text, which the plain form doesn't tell apart.
-    NotBuilt,
+    NameInUse,
     /// The new text is too long.
     OverLimit,
     Memory(AllocError),
@@ -42,7 +42,7 @@ impl Why {
         match self {
             Why::NoSuchThing { .. } => Some(31),
             Why::WrongForm => Some(33),
-            Why::NotBuilt => Some(58),
+            Why::NameInUse => Some(58),
             Why::OverLimit => Some(57),
             Why::Memory(_) => None,
         }
@@ -73,7 +73,7 @@ pub fn rename(
         return Err(Why::WrongForm);
     }
     if is_spelled(&items, new) {
-        return Err(Why::NotBuilt);
+        return Err(Why::NameInUse);
     }
     let items = respelled_at(alloc, tree, &items, lexeme, old, new).map_err(Why::Memory)?;
     let text = join(alloc, &items).map_err(Why::Memory)?;

@@ -187,7 +187,7 @@ fn texts_that_are_not_of_the_form(rt: HostRuntime) {
 
 fn is_not_plain(alloc: Global, text: &str) -> bool {
     let answer = load(alloc, text.as_bytes());
-    matches!(answer, Err(LoadError::NotPlain { text: 0 }))
+    matches!(answer, Err(LoadError::OutsideForm { text: 0 }))
 }
 
 #[test]
