@@ -20,7 +20,8 @@ use Rattle.hr_plain.specs.Renaming.{IsNameAt, IsRenamed, IsWhy, MayRename, Respe
 use Rattle.hr_plain.specs.Scoping.{occurrences_of}
 use Rattle.hare.specs.declared.status.Status.{Status}
 use Rattle.hare.specs.Report as report
-use Rattle.hare.specs.Runs.{AreGood, IsDue}
+use Rattle.hare.specs.Due.{IsDue}
+use Rattle.hare.specs.Ends.{AreGood}
 use Rattle.hare.specs.Words.{Renaming, renaming_of}
 use Rattle.hare.proofs.OneTarget.{one_target}
 use Rattle.hare.proofs.OneTree.{one_tree}
@@ -59,7 +60,7 @@ accepted_or_refused : (renaming : Renaming) (tree : Module) (text : List ℕ) (w
 accepted_or_refused renaming tree text (Why.NoSuchThing (Sought.Name name)) renamed cause told = cause
 accepted_or_refused renaming tree text (Why.NoSuchThing (Sought.At place)) renamed cause told = cause.1 renamed.lexeme renamed.item renamed.may.name
 accepted_or_refused renaming tree text Why.WrongForm renamed cause told = cause.1 renamed.may.varid
-accepted_or_refused renaming tree text Why.NotBuilt renamed cause told = true≢false (sym cause.2 ∙ renamed.may.fresh)
+accepted_or_refused renaming tree text Why.NameInUse renamed cause told = true≢false (sym cause.2 ∙ renamed.may.fresh)
 accepted_or_refused renaming tree text Why.OverLimit renamed (lexeme, item, items, may, respelled, over) told =
     within_or_over tree renaming.module_name renaming.pos renaming.new_name text lexeme item items renamed may respelled over
 accepted_or_refused renaming tree text (Why.Memory error) renamed cause told = told refl
@@ -68,7 +69,7 @@ accepted_or_refused renaming tree text (Why.Memory error) renamed cause told = t
 plain_or_refused : (renaming : Renaming) (old : List ℕ) (tree : Module) (error : LoadError) → length old ≤ module_limit → IsPlain old tree
     → IsLoadRefusal old error → report.not_accepted renaming error ≢ None → ⊥
 plain_or_refused renaming old tree (LoadError.Lex text error) short plain refusal told = no_cause old error (items_of tree) short plain.lexes refusal.1
-plain_or_refused renaming old tree (LoadError.NotBuilt text) short plain refusal told = refusal.2 tree plain
+plain_or_refused renaming old tree (LoadError.OutsideForm text) short plain refusal told = refusal.2 tree plain
 plain_or_refused renaming old tree (LoadError.Memory error) short plain refusal told = told refl
 
 -- the status by each fact in turn: a tree's renaming is accepted or refused

@@ -1,6 +1,7 @@
 mod Causes
 mod Due
 mod Ends
+mod Lines
 mod Numbers
 mod OneTarget
 mod OneTree

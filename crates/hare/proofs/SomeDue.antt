@@ -15,7 +15,8 @@ use Rattle.hr_plain.specs.Renaming.{IsRenamed, IsWhy, number_of}
 use Rattle.hr_plain.proofs.Total.{plain_or_refused_lem, renamed_or_refused_lem}
 use Rattle.hare.specs.declared.status.Status.{Status}
 use Rattle.hare.specs.Report as report
-use Rattle.hare.specs.Runs.{AreGood, Holds, IsDue}
+use Rattle.hare.specs.Due.{Holds, IsDue}
+use Rattle.hare.specs.Ends.{AreGood}
 use Rattle.hare.specs.Words.{Renaming, renaming_of}
 
 some_none : {A : Type 0} {x : A} → Some x ≡ None → ⊥
@@ -34,7 +35,7 @@ lexer_told renaming old (LexError.Memory m) cause = absurd cause.1
 reason_told : (renaming : Renaming) (why : Why) → number_of why ≢ None → report.refused renaming why ≢ None
 reason_told renaming (Why.NoSuchThing at) numbered = λ e. some_none e
 reason_told renaming Why.WrongForm numbered = λ e. some_none e
-reason_told renaming Why.NotBuilt numbered = λ e. some_none e
+reason_told renaming Why.NameInUse numbered = λ e. some_none e
 reason_told renaming Why.OverLimit numbered = λ e. some_none e
 reason_told renaming (Why.Memory m) numbered = absurd (numbered refl)
 
@@ -51,11 +52,11 @@ module _ (words : List (List ℕ)) (files : Files) where
       by_step tree plain (inr (why, cause, numbered)) =
           (Status.StepRefused, (renaming, old, why, good, holds, record { tree = tree; plain = plain; cause = cause }, reason_told renaming why numbered))
 
-      by_text : ((tree : Module) × IsPlain old tree) ⊎ (((error : LexError) × IsCause old error) ⊎ IsLoadRefusal old (LoadError.NotBuilt 0)) → SomeDue
+      by_text : ((tree : Module) × IsPlain old tree) ⊎ (((error : LexError) × IsCause old error) ⊎ IsLoadRefusal old (LoadError.OutsideForm 0)) → SomeDue
       by_text (inl (tree, plain)) = by_step tree plain (renamed_or_refused_lem old tree plain renaming.module_name renaming.pos renaming.new_name)
       by_text (inr (inl (error, cause))) =
           (Status.NotAccepted, (renaming, old, LoadError.Lex 0 error, good, holds, (refl, cause), lexer_told renaming old error cause))
-      by_text (inr (inr refusal)) = (Status.NotAccepted, (renaming, old, LoadError.NotBuilt 0, good, holds, refusal, λ e. some_none e))
+      by_text (inr (inr refusal)) = (Status.NotAccepted, (renaming, old, LoadError.OutsideForm 0, good, holds, refusal, λ e. some_none e))
 
     by_length : (old : List ℕ) → get files renaming.file ≡ Some old → (test : Bool)
         → ((test ≡ true) × (length old ≤ module_limit)) ⊎ ((test ≡ false) × (module_limit < length old)) → SomeDue

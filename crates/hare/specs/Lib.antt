@@ -1,6 +1,8 @@
 pub mod Codes
+pub mod Due
+pub mod Ends
+pub mod Outsides
 pub mod Report
-pub mod Runs
 pub mod Shown
 pub mod Steps
 pub mod Words

@@ -1,10 +1,9 @@
-ghost use Rattle.std.specs.Prelude.{◌≡◌, IfOk, Some};
+ghost use Rattle.std.specs.Prelude.{◌≡◌, IfOk, Some, None};
 ghost use Rattle.std.specs.String.{string_bytes};
 ghost use Rattle.hare.specs.Report as spec;
 ghost use Rattle.hare.specs.Shown.{shown};
 
 use crate::words::Renaming;
-use hr_lexer::LexError;
 use hr_plain::{LoadError, Why};
 use std::alloc::{AllocError, Global};
 
@@ -15,8 +14,7 @@ pub fn bad_words(alloc: Global) -> Result<String, AllocError>
     String::from_str(alloc, "words: refused\n")
 }
 
-/// A file that is not read, with the number of the cause, and its place in bytes from 0 where it has
-/// one.
+/// A file that is not accepted, with the number of the cause, and its place where it has one.
 pub fn not_accepted(
     alloc: Global,
     command: Renaming<'_>,
@@ -24,28 +22,23 @@ pub fn not_accepted(
 ) -> Result<String, AllocError>
     ensures { IfOk result (λ text. Some (string_bytes text) ≡ spec.not_accepted (shown command.entry) error.now) }
 {
-    let file = command.file;
-    match error {
-        LoadError::Lex { text: _, error } => unlexed(alloc, file, error),
-        LoadError::NotBuilt { text: _ } => format!(in alloc; "not accepted: 25 {file}\n"),
-        LoadError::Memory(error) => Err(*error),
+    let number = error.number().ok_or(AllocError)?;
+    match error.place() {
+        Some(place) => placed(alloc, number, command.file, place),
+        None => unplaced(alloc, number, command.file),
     }
 }
 
-/// A file that is not lexed.
-fn unlexed(alloc: Global, file: &str, error: &LexError) -> Result<String, AllocError>
-    ensures { IfOk result (λ text. Some (string_bytes text) ≡ spec.unlexed file.now error.now) }
+fn placed(alloc: Global, number: u32, file: &str, place: usize) -> Result<String, AllocError>
+    ensures { IfOk result (λ text. string_bytes text ≡ spec.cause number (spec.placed file.now (Some place))) }
 {
-    match error {
-        LexError::TooLong => format!(in alloc; "not accepted: 5 {file}\n"),
-        LexError::BadUtf8 { place } => format!(in alloc; "not accepted: 1 {file} {place}\n"),
-        LexError::OpenComment { place } => format!(in alloc; "not accepted: 3 {file} {place}\n"),
-        LexError::LiteralTooWide { place } => {
-            format!(in alloc; "not accepted: 4 {file} {place}\n")
-        }
-        LexError::BadLexeme { place } => format!(in alloc; "not accepted: 2 {file} {place}\n"),
-        LexError::Memory(error) => Err(*error),
-    }
+    format!(in alloc; "not accepted: {number} {file} {place}\n")
+}
+
+fn unplaced(alloc: Global, number: u32, file: &str) -> Result<String, AllocError>
+    ensures { IfOk result (λ text. string_bytes text ≡ spec.cause number (spec.placed file.now None)) }
+{
+    format!(in alloc; "not accepted: {number} {file}\n")
 }
 
 pub fn read_fault(alloc: Global, command: Renaming<'_>) -> Result<String, AllocError>
@@ -80,21 +73,26 @@ pub fn write_fault(alloc: Global, command: Renaming<'_>) -> Result<String, Alloc
 pub fn refused(alloc: Global, command: Renaming<'_>, why: &Why) -> Result<String, AllocError>
     ensures { IfOk result (λ text. Some (string_bytes text) ≡ spec.refused (shown command.entry) why.now) }
 {
+    let number = why.number().ok_or(AllocError)?;
     match why {
-        Why::NoSuchThing { at: _ } => nothing_at(alloc, command),
-        Why::WrongForm => String::from_str(alloc, "1 rename: refused 33\nchanged 0\n"),
-        Why::NotBuilt => String::from_str(alloc, "1 rename: refused 58\nchanged 0\n"),
-        Why::OverLimit => String::from_str(alloc, "1 rename: refused 57\nchanged 0\n"),
-        Why::Memory(error) => Err(*error),
+        Why::NoSuchThing { .. } => nothing_at(alloc, command, number),
+        _ => numbered(alloc, number),
     }
 }
 
+/// A refusal that shows its number alone.
+fn numbered(alloc: Global, number: u32) -> Result<String, AllocError>
+    ensures { IfOk result (λ text. string_bytes text ≡ spec.refusal number spec.unchanged) }
+{
+    format!(in alloc; "1 rename: refused {number}\nchanged 0\n")
+}
+
 /// No name begins where the command looks for one.
-fn nothing_at(alloc: Global, command: Renaming<'_>) -> Result<String, AllocError>
-    ensures { IfOk result (λ text. string_bytes text ≡ spec.nothing_at command.entry.«module».now command.entry.pos) }
+fn nothing_at(alloc: Global, command: Renaming<'_>, number: u32) -> Result<String, AllocError>
+    ensures { IfOk result (λ text. string_bytes text ≡ spec.refusal number (spec.sought_then (shown command.entry) spec.unchanged)) }
 {
     let name = command.module;
     let line = command.pos.line;
     let col = command.pos.col;
-    format!(in alloc; "1 rename: refused 31 {name}:{line}:{col}\nchanged 0\n")
+    format!(in alloc; "1 rename: refused {number} {name}:{line}:{col}\nchanged 0\n")
 }

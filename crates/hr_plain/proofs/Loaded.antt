@@ -57,7 +57,7 @@ plain_tree tree is = both (list_all-from_AllPass plain_item (module_items tree) 
 read_tree : (tree : Module) → IsForm tree → equations_of (module_items tree) ≡ Some tree.equations
 read_tree tree is = form_read tree.equations (list_all-from_AllPass is_equation tree.equations is.equations) is.margins
 
-pub not_plain : (bytes : List ℕ) (items : Items) → LexesText bytes items → are_plain items ≡ false → IsLoadRefusal bytes (LoadError.NotBuilt 0)
+pub not_plain : (bytes : List ℕ) (items : Items) → LexesText bytes items → are_plain items ≡ false → IsLoadRefusal bytes (LoadError.OutsideForm 0)
 not_plain bytes items lexes h = (
   refl,
   (items, lexes),
@@ -65,7 +65,7 @@ not_plain bytes items lexes h = (
       true≢false (sym (plain_tree tree is.form) ∙ ap are_plain (same_items bytes items tree lexes is) ∙ h),
 )
 
-pub not_read : (bytes : List ℕ) (items : Items) → LexesText bytes items → equations_of items.list ≡ None → IsLoadRefusal bytes (LoadError.NotBuilt 0)
+pub not_read : (bytes : List ℕ) (items : Items) → LexesText bytes items → equations_of items.list ≡ None → IsLoadRefusal bytes (LoadError.OutsideForm 0)
 not_read bytes items lexes h = (
   refl,
   (items, lexes),
@@ -75,7 +75,7 @@ not_read bytes items lexes h = (
 )
 
 pub not_scoped : (bytes : List ℕ) (items : Items) (equations : List Equation) → LexesText bytes items → equations_of items.list ≡ Some equations → are_scoped equations ≡ false
-    → IsLoadRefusal bytes (LoadError.NotBuilt 0)
+    → IsLoadRefusal bytes (LoadError.OutsideForm 0)
 not_scoped bytes items equations lexes read h = (
   refl,
   (items, lexes),

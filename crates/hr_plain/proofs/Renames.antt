@@ -69,6 +69,11 @@ renamed bytes tree plain module_name pos lexeme old new text items found varid f
 pub over_limit : (tree : Module) (module_name : List ℕ) (pos : Pos) (lexeme : ℕ) (old new text : List ℕ) (items : Items)
     → IsFound tree module_name pos lexeme old → IsVarId new → is_spelled new (module_items tree) ≡ false
     → Respelled tree lexeme old new items → text ≡ joined items.list items.tail → module_limit < length text → IsWhy tree module_name pos new Why.OverLimit
-over_limit tree module_name pos lexeme old new text items found varid fresh r is long =
-    (lexeme, found.0, items, record { name = found.1; varid = varid; fresh = fresh }, subst (λ t. Respelled tree lexeme t new items) (sym found.2) r,
-      subst (λ t. module_limit < length t) is long)
+over_limit tree module_name pos lexeme old new text items found varid fresh r is long = (
+  lexeme,
+  found.0,
+  items,
+  record { name = found.1; varid = varid; fresh = fresh },
+  subst (λ t. Respelled tree lexeme t new items) (sym found.2) r,
+  subst (λ t. module_limit < length t) is long,
+)

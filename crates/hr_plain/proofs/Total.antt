@@ -38,7 +38,7 @@ use Rattle.hr_plain.proofs.Renames.{renamed}
 -- texts
 module _ (bytes : List ℕ) where
   abbrev TreeOrNot : Type 0
-  TreeOrNot = ((tree : Module) × IsPlain bytes tree) ⊎ (((error : LexError) × IsCause bytes error) ⊎ IsLoadRefusal bytes (LoadError.NotBuilt 0))
+  TreeOrNot = ((tree : Module) × IsPlain bytes tree) ⊎ (((error : LexError) × IsCause bytes error) ⊎ IsLoadRefusal bytes (LoadError.OutsideForm 0))
 
   module _ (items : Items) (lexes : LexesText bytes items) where
     by_scoped : are_plain items ≡ true → (equations : List Equation) → equations_of items.list ≡ Some equations → (b : Bool) → are_scoped equations ≡ b → TreeOrNot
@@ -133,7 +133,7 @@ module _ (bytes : List ℕ) (tree : Module) (plain : IsPlain bytes tree) (module
         inr (Why.OverLimit, (lexeme, item, items, record { name = name; varid = varid; fresh = fresh }, r, long), λ e. some_none e)
 
     by_fresh : IsVarId new → (b : Bool) → is_spelled new (module_items tree) ≡ b → Answer
-    by_fresh varid true e = inr (Why.NotBuilt, ((lexeme, item, name), varid, e), λ e. some_none e)
+    by_fresh varid true e = inr (Why.NameInUse, ((lexeme, item, name), varid, e), λ e. some_none e)
     by_fresh varid false e =
         let old : List ℕ = item.lexeme.text in
         let marks : List Bool = occurrences_of (owner_at tree lexeme old) old tree in

@@ -1,6 +1,7 @@
 -- The lexeme that each name of a module is bound to (Haskell 98 Report, sections 3.2, 4.4.3 and 4.5.1): a
 -- variable among an equation's patterns is bound there, as are the names in its body that are spelled like
--- it; every other name is bound where it is first defined.
+-- it; every other name is bound where it is first defined. This is the promise: a renaming keeps these
+-- numbers (`IsTarget`, `binds`). `Scoping` says which names are one, by which the code finds what to respell.
 use Rattle.std.specs.Prelude.{ℕ, ◌+◌, List, [], ◌∷◌, ◌++◌, length, map, if◌then◌else◌, Option, Some, None}
 use Rattle.std.specs.Option.{option_or}
 use Rattle.hr_base.specs.declared.lexeme.Item.{Item}

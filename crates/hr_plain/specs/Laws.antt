@@ -13,7 +13,7 @@ use Rattle.hr_plain.specs.Renaming.{IsRenamed, IsWhy, number_of}
 -- a text has a tree of the form; or there is a cause for which the lexer refuses it; or it has items and no tree
 abbrev pub PlainOrRefused : Type 0
 PlainOrRefused =
-    (bytes : List ℕ) → ((tree : Module) × IsPlain bytes tree) ⊎ (((error : LexError) × IsCause bytes error) ⊎ IsLoadRefusal bytes (LoadError.NotBuilt 0))
+    (bytes : List ℕ) → ((tree : Module) × IsPlain bytes tree) ⊎ (((error : LexError) × IsCause bytes error) ⊎ IsLoadRefusal bytes (LoadError.OutsideForm 0))
 
 -- in such a tree each renaming has a text that it writes, or there is a numbered reason why it is refused
 abbrev pub RenamedOrRefused : Type 0

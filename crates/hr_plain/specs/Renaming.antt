@@ -90,7 +90,7 @@ pub record IsRenamed (tree : Module) (module_name : List ℕ) (pos : Pos) (new t
 abbrev pub number_of : Why → Option ℕ
 number_of (Why.NoSuchThing at) = Some 31
 number_of Why.WrongForm = Some 33
-number_of Why.NotBuilt = Some 58
+number_of Why.NameInUse = Some 58
 number_of Why.OverLimit = Some 57
 number_of (Why.Memory error) = None
 
@@ -102,7 +102,7 @@ IsWhy tree module_name pos new (Why.NoSuchThing (Sought.At place)) =
     (place ≡ record { «module» = module_name; pos = pos }) × NoName tree module_name pos
 IsWhy tree module_name pos new Why.WrongForm =
     ((lexeme : ℕ) × (item : Item) × IsNameAt tree module_name pos lexeme item) × ¬ (IsVarId new)
-IsWhy tree module_name pos new Why.NotBuilt =
+IsWhy tree module_name pos new Why.NameInUse =
     ((lexeme : ℕ) × (item : Item) × IsNameAt tree module_name pos lexeme item) × IsVarId new
     × (is_spelled new (module_items tree) ≡ true)
 IsWhy tree module_name pos new Why.OverLimit =

@@ -1,6 +1,7 @@
 -- Which variable or top-level name a name of the plain form is (Haskell 98 Report, sections 3.2 and
 -- 4.4.3): an equation's patterns bind their variables in the equation's body, and every other name in a
--- body is one that an equation defines.
+-- body is one that an equation defines. By these the code finds the occurrences of a name; what is promised
+-- of a renaming, that each name keeps its binder, is said by `binders_of` of `Binders`.
 use Rattle.std.specs.Prelude.{ℕ, suc, Bool, true, false, ◌&&◌, ◌==◌, nat_eq, List, [], ◌∷◌, ◌++◌, map, if◌then◌else◌}
 use Rattle.std.specs.List.{list_any}
 use Rattle.std.specs.Cmp.Lexicographic.{pointwise}

@@ -12,7 +12,8 @@ use hr_plain_tree::{Module, at};
 use hr_rules::join;
 use std::alloc::{AllocError, Global};
 
-/// What a command looks for: a thing at a place, or one of a name.
+/// What a command looks for: a thing at a place, or one of a name. No command of the plain form looks
+/// for a name.
 #[derive(Debug, Drop, PartialEq, Eq)]
 pub enum Sought {
     At(Place),
@@ -22,9 +23,13 @@ pub enum Sought {
 /// Why a step is refused.
 #[derive(Debug, Drop, PartialEq, Eq)]
 pub enum Why {
+    /// Nothing of the kind is there.
     NoSuchThing { at: Sought },
+    /// The new name is no variable.
     WrongForm,
-    NotBuilt,
+    /// Some lexeme has the new name as its text, which the plain form doesn't tell apart.
+    NameInUse,
+    /// The new text is too long.
     OverLimit,
     Memory(AllocError),
 }
@@ -37,7 +42,7 @@ impl Why {
         match self {
             Why::NoSuchThing { .. } => Some(31),
             Why::WrongForm => Some(33),
-            Why::NotBuilt => Some(58),
+            Why::NameInUse => Some(58),
             Why::OverLimit => Some(57),
             Why::Memory(_) => None,
         }
@@ -68,7 +73,7 @@ pub fn rename(
         return Err(Why::WrongForm);
     }
     if is_spelled(&items, new) {
-        return Err(Why::NotBuilt);
+        return Err(Why::NameInUse);
     }
     let items = respelled_at(alloc, tree, &items, lexeme, old, new).map_err(Why::Memory)?;
     let text = join(alloc, &items).map_err(Why::Memory)?;

@@ -169,25 +169,25 @@ fn texts_that_are_not_of_the_form(rt: HostRuntime) {
         "f = 1\nf = 2\ng = 2\nh = 1\ng = 2",
     ];
     for text in lexemes {
-        assert!(rt; is_not_built(rt.alloc(), text), "{text:?}");
+        assert!(rt; is_not_plain(rt.alloc(), text), "{text:?}");
     }
     for text in trivia {
-        assert!(rt; is_not_built(rt.alloc(), text), "{text:?}");
+        assert!(rt; is_not_plain(rt.alloc(), text), "{text:?}");
     }
     for text in equations {
-        assert!(rt; is_not_built(rt.alloc(), text), "{text:?}");
+        assert!(rt; is_not_plain(rt.alloc(), text), "{text:?}");
     }
     for text in places {
-        assert!(rt; is_not_built(rt.alloc(), text), "{text:?}");
+        assert!(rt; is_not_plain(rt.alloc(), text), "{text:?}");
     }
     for text in names {
-        assert!(rt; is_not_built(rt.alloc(), text), "{text:?}");
+        assert!(rt; is_not_plain(rt.alloc(), text), "{text:?}");
     }
 }
 
-fn is_not_built(alloc: Global, text: &str) -> bool {
+fn is_not_plain(alloc: Global, text: &str) -> bool {
     let answer = load(alloc, text.as_bytes());
-    matches!(answer, Err(LoadError::NotBuilt { text: 0 }))
+    matches!(answer, Err(LoadError::OutsideForm { text: 0 }))
 }
 
 #[test]

@@ -1,5 +1,5 @@
 -- Lists of names, each once.
-use Rattle.std.proofs.Common.{◌≡◌, ℕ, true, false, cond, List, [], ◌∷◌, ◌++◌, map, refl, sym, ap, ◌∙◌, Contains}
+use Rattle.std.proofs.Common.{◌≡◌, ℕ, zero, suc, true, false, cond, List, [], ◌∷◌, ◌++◌, map, get_or, set, refl, sym, ap, ◌∙◌, Contains}
 use Rattle.std.proofs.lemmas.List.{map-append}
 use Rattle.std.proofs.lemmas.Cmp.{nat_list_eq_equiv}
 use Rattle.std.proofs.lemmas.List.Elements.{Contains-push, Contains-append_left}
@@ -36,3 +36,14 @@ with_name_keeps names name other h =
       | true ↦ h
       | false ↦ Contains-append_left names (name ∷ []) other h
     ]
+
+-- to set what stands beside a name is to leave the names
+pub same_names : {T : Type 0} (es : List (List ℕ × T)) (i : ℕ) (entry : List ℕ × T) (value : T) → entry ≡ get_or es i entry
+    → map (λ e. e.0) (set es i (entry.0, value)) ≡ map (λ e. e.0) es
+same_names [] i entry value here = refl
+same_names (e ∷ es) zero entry value here = ap (λ n. n ∷ map (λ e. e.0) es) (ap (λ x. x.0) here)
+same_names (e ∷ es) (suc i) entry value here = ap (λ names. e.0 ∷ names) (same_names es i entry value here)
+
+-- a name that none of the names equals is not among them
+pub none_of_these : (names : List (List ℕ)) (asked name : List ℕ) → asked ≡ name → list_any (bytes_eq asked) names ≡ false → Contains names name → ⊥
+none_of_these names asked name same none has = let held = any_of_member names name has in cc

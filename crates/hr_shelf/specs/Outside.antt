@@ -1,4 +1,4 @@
--- What a shelf of files and a sink mean: contents that may be told, and counts of faults.
+-- What a shelf of files and a sink mean: contents that may be told, and counts of faults and calls.
 use Rattle.std.specs.Prelude.{◌≡◌, ℕ, ◌+◌, ◌-◌, ◌^◌, ◌<◌, ◌≤◌, List, ◌++◌, length, min, Option, Some, None, IfSome, Contains}
 use Rattle.std.specs.Option.{option_map}
 use Rattle.std.specs.Ordering.{nat_cmp}
@@ -10,6 +10,21 @@ use Rattle.hr_shelf.specs.declared.outside.ReadError.TheVariants.{Absent, TooLon
 -- the files of a shelf: bytes under the bytes of names
 abbrev pub Files : Type 0
 Files = FinMap (slice_cmp nat_cmp) (List ℕ)
+
+-- a shelf: its files, where it tells them; how often a read of each name was refused (one count may serve all names),
+-- and how often a replace was; the names that are ready; and the calls, if it counts them
+pub record Store : Type 0 where
+  pub told : Option Files
+  pub read_faults : List ℕ → ℕ
+  pub replace_faults : ℕ
+  pub ready : List (List ℕ)
+  pub calls : ℕ
+
+-- a sink: what was written, where it tells that; how often a piece was refused; and the pieces offered, if it counts them
+pub record Output : Type 0 where
+  pub written : Option (List ℕ)
+  pub faults : ℕ
+  pub pieces : ℕ
 
 -- a count of faults has risen; one that stands at its type's end counts as risen by any number
 abbrev pub Rose : ℕ → ℕ → Type 0
@@ -34,6 +49,10 @@ MayRefuse Absent told name limit risen = ToldOr told (λ files. get files name �
 MayRefuse TooLong told name limit risen = ToldOr told (λ files. HoldsMore files name limit) risen
 MayRefuse Failed told name limit risen = risen
 MayRefuse Memory told name limit risen = Unit {0}
+
+-- no count of read faults has fallen
+abbrev pub NoneFalls : (List ℕ → ℕ) → (List ℕ → ℕ) → Type 0
+NoneFalls before now = (name : List ℕ) → before name ≤ now name
 
 -- the files after the bytes of a name were replaced
 abbrev pub replaced : Option Files → List ℕ → List ℕ → Option Files

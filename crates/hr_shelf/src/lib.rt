@@ -8,6 +8,8 @@ mod memory_shelf;
 mod memory_sink;
 mod outside;
 mod ready_names;
+mod replacing;
+mod seen;
 mod std_sink;
 mod stream;
 
@@ -16,3 +18,6 @@ pub use memory_shelf::MemoryShelf;
 pub use memory_sink::MemorySink;
 pub use outside::{Failed, ReadError, Shelf, Sink};
 pub use std_sink::StdSink;
+
+#[cfg(test)]
+mod tests;

@@ -70,13 +70,7 @@ impl MemoryShelf {
 }
 
 impl Shelf for MemoryShelf {
-    ghost told = { λ s. Some s.files };
-
-    ghost read_faults = { λ s. s.read_faults };
-
-    ghost replace_faults = { λ s. s.replace_faults };
-
-    ghost ready = { names };
+    ghost store = { λ s. record { told = Some s.files; read_faults = λ _. s.read_faults; replace_faults = s.replace_faults; ready = names s; calls = s.calls } };
 
     fn read(&mut self, alloc: Global, name: &str, limit: usize) -> Result<Vec<u8>, ReadError>
         ensures answer { IfOk result (λ bytes. read_answer self.old name.now limit ≡ Ok bytes.items) }

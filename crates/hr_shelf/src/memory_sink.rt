@@ -51,9 +51,7 @@ impl MemorySink {
 }
 
 impl Sink for MemorySink {
-    ghost written = { λ s. Some s.bytes };
-
-    ghost faults = { λ s. s.faults };
+    ghost output = { λ s. record { written = Some s.bytes; faults = s.faults; pieces = s.calls } };
 
     fn write(&mut self, bytes: &[u8]) -> Result<(), Failed>
         ensures refuses { IsErr result ↔ IsTrue (sink_refuses self.old bytes.now) }

@@ -1,44 +1,48 @@
 ghost use Rattle.std.specs.Prelude.{◌≡◌, ◌≤◌, None};
-ghost use Rattle.hr_shelf.specs.System.{count_after};
+ghost use Rattle.hr_shelf.specs.System.{after_write};
 
 use crate::stream::write_whole;
 use crate::{Failed, Sink};
 use std::io;
 use std::marker::Model;
 
-/// The standard output. Contracts see the number of its refusals.
+/// The standard output. Contracts see the numbers of its refusals and of the pieces that it was offered.
 #[derive(Drop)]
 pub struct StdSink<P: Print + Drop> {
     out: P,
     faults: u64,
+    pieces: u64,
 }
 
 impl<P: Print + Drop> Model for StdSink<P> {
-    ghost use Rattle.std.specs.Prelude.{ℕ};
+    ghost use Rattle.hr_shelf.specs.System.{StdState};
 
-    ghost Value = { ℕ };
+    ghost Value = { StdState };
 
-    ghost view = { λ s. s.faults };
+    ghost view = { λ s. record { faults = s.faults; pieces = s.pieces } };
 }
 
 impl<P: Print + Drop> StdSink<P> {
     /// The standard output that `out` stands for.
     pub fn new(out: P) -> StdSink<P>
-        ensures { result ≡ 0 }
+        ensures { result ≡ record { faults = 0; pieces = 0 } }
     {
-        StdSink { out, faults: 0 }
+        StdSink {
+            out,
+            faults: 0,
+            pieces: 0,
+        }
     }
 }
 
 impl<P: Print + Drop> Sink for StdSink<P> {
-    ghost written = { λ _. None };
-
-    ghost faults = { λ s. s };
+    ghost output = { λ s. record { written = None; faults = s.faults; pieces = s.pieces } };
 
     fn write(&mut self, bytes: &[u8]) -> Result<(), Failed>
-        ensures counted { self.new ≡ count_after result self.old }
-        ensures never_falls { self.old ≤ self.new }
+        ensures after { self.new ≡ after_write result self.old }
+        ensures never_falls { self.old.faults ≤ self.new.faults }
     {
+        self.pieces = self.pieces.saturating_add(1);
         match write_whole(&mut io::writer(&self.out), bytes) {
             Ok(()) => Ok(()),
             Err(Failed) => {

@@ -1,13 +1,11 @@
-use Rattle.std.proofs.Common.{◌≡◌, Result, Ok, Err, OnOk, is_ok, true}
-use Rattle.hr_shelf.proofs.NameLists.{with_name_has}
+use Rattle.std.proofs.Common.{Contains, ap, sym, subst}
+use Rattle.hr_shelf.proofs.NameLists.{with_name_has, with_name_keeps}
 use Rattle.hr_shelf.proofs.file_shelf.FileShelfShelf.read.Goals as goal
 
-on_ok : {T E : Type 0} (P : Type 0) (r : Result T E) → true ≡ is_ok r → OnOk r P → P
-on_ok P (Ok x) is h = h
-on_ok P (Err e) is h = cc
+pub returns-in-Ok-clause-gets_ready : goal.returns-in-Ok-clause-gets_ready
+returns-in-Ok-clause-gets_ready g c = rw c.in-Ok.ensures.readied (with_name_has c.self.inside.ready c.args.name.now)
 
-pub returns-in_ok-map_err-in-Ok-clause-gets_ready :
-    goal.returns-in_ok-map_err-in-Ok-clause-gets_ready
-returns-in_ok-map_err-in-Ok-clause-gets_ready g c =
-    let added = on_ok _ c.add.result c.in_ok-map_err-in-Ok.ensures.variant c.add.ensures.added in
-    rw added (with_name_has c.self.inside.ready c.args.name.now)
+pub returns-in-Ok-clause-stays_ready : goal.returns-in-Ok-clause-stays_ready
+returns-in-Ok-clause-stays_ready g c = λ name ready.
+    rw c.in-Ok.ensures.readied
+    (with_name_keeps c.self.inside.ready c.args.name.now name (subst (λ names. Contains names name) (ap (λ s. s.ready) (sym c.self.view_is)) ready))

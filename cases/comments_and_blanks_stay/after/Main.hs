@@ -1,0 +1,4 @@
+-- sums, f
+
+total  x =  x   -- f
+h = total  1 

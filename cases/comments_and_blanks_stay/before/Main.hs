@@ -1,0 +1,4 @@
+-- sums, f
+
+f  x =  x   -- f
+h = f  1 
