@@ -1,10 +1,11 @@
 -- Where a cursor stands in a text, and what its calls make of that.
-use Rattle.std.specs.Prelude.{ℕ, min, Bool, true, false, not, List, [], ◌∷◌, map, drop, Option, Some, None}
+use Rattle.std.specs.Prelude.{ℕ, Bool, true, false, not, List, [], ◌∷◌, drop, Option, Some, None}
 use Rattle.hr_base.specs.declared.place.Pos.{Pos}
 use Rattle.hr_base.specs.declared.lexeme.Ending.{Ending}
 use Rattle.hr_base.specs.declared.lexeme.Item.{Item}
 use Rattle.hr_base.specs.declared.lexeme.Lexeme.{Lexeme}
 use Rattle.hr_rules.specs.declared.role.Role.{Role}
+use Rattle.hr_rules.specs.declared.block.BlockKind.{BlockKind}
 use Rattle.hr_rules.specs.declared.block.OpenBlock.{OpenBlock}
 use Rattle.hr_rules.specs.declared.block.Opened.{Opened}
 use Rattle.hr_rules.specs.declared.block.Placed.{Placed}
@@ -27,16 +28,6 @@ pub record Standing : Type 0 where
 -- at the beginning of a text
 abbrev pub beginning : List Item → Standing
 beginning items = record { rest = placed_of items; end = behind_items origin items; blocks = []; behind_of = false }
-
--- a line and a column beyond what a `Pos` holds are shown by the greatest number of 32 bits
-abbrev pub shown : Pos → Pos
-shown pos = record { line = min 4294967295 pos.line; col = min 4294967295 pos.col }
-
-abbrev pub placed_shown : Placed → Placed
-placed_shown next = record { item = next.item; pos = shown next.pos; first = next.first }
-
-abbrev pub standing_shown : Standing → Standing
-standing_shown cursor = record { rest = map placed_shown cursor.rest; end = shown cursor.end; blocks = cursor.blocks; behind_of = cursor.behind_of }
 
 -- the next item
 abbrev pub next_of : List Placed → Option Item
@@ -69,14 +60,18 @@ taken cursor = behind_next cursor.rest cursor
 abbrev pub opening : Standing → Opened
 opening cursor = opens (enclosing cursor.blocks) cursor.rest
 
--- where the block has opened
-abbrev pub opened : Standing → Standing
-opened cursor = record {
+-- where a block of the kind has opened
+abbrev pub opened_as : BlockKind → Standing → Standing
+opened_as kind cursor = record {
   rest = opened_before (opening cursor) cursor.rest;
   end = cursor.end;
-  blocks = opened_in (opening cursor) (kind_of_block cursor.behind_of cursor.blocks) cursor.blocks;
+  blocks = opened_in (opening cursor) kind cursor.blocks;
   behind_of = cursor.behind_of;
 }
+
+-- where the block behind a keyword has opened
+abbrev pub opened : Standing → Standing
+opened cursor = opened_as (kind_of_block cursor.behind_of) cursor
 
 -- where the next lexeme counts as first on its line, or as not first
 abbrev pub marked : Bool → Standing → Standing

@@ -1,9 +1,9 @@
 //! The blocks that are open.
 ghost use Rattle.std.specs.Prelude.{◌≡◌, ◌∷◌, [], drop, OnOk, OnErr};
-ghost use Rattle.hr_rules.specs.Blocks.{blocks_behind, enclosing, kind_of_block};
+ghost use Rattle.hr_rules.specs.Blocks.{blocks_behind, enclosing};
 ghost use Rattle.hr_layout.specs.Innermost.{innermost};
 
-use hr_rules::{BlockKind, OpenBlock, Role};
+use hr_rules::{OpenBlock, Role};
 use smallvec::SmallVec;
 use std::alloc::{AllocError, Global};
 use std::marker::Model;
@@ -62,19 +62,6 @@ impl Blocks {
             None => 0,
             Some(OpenBlock::Implicit { col, .. }) => col,
             Some(OpenBlock::Explicit) => 0,
-        }
-    }
-
-    /// The kind of a block that opens now, by whether the lexeme before it is `of`.
-    pub(crate) fn kind_of_block(&self, behind_of: bool) -> BlockKind
-        ensures { result ≡ kind_of_block behind_of self.now }
-    {
-        if behind_of {
-            return BlockKind::Alternatives;
-        }
-        match self.innermost() {
-            None => BlockKind::Body,
-            Some(_) => BlockKind::Declarations,
         }
     }
 

@@ -1,15 +1,15 @@
 //! A cursor over the items of a text.
-ghost use Rattle.std.specs.Prelude.{◌≡◌, ◌<◌, ◌^◌, [], true, None, if◌then◌else◌, IfOk, is_ok, length};
+ghost use Rattle.std.specs.Prelude.{◌≡◌, None, if◌then◌else◌, IfOk, is_ok};
 ghost use Rattle.std.specs.Option.{option_map};
-ghost use Rattle.hr_rules.specs.Lexing.{joined};
+ghost use Rattle.hr_rules.specs.declared.block.BlockKind.{BlockKind};
 ghost use Rattle.hr_rules.specs.Blocks.{ends_block, ends_innermost, is_at_part};
-ghost use Rattle.hr_layout.specs.Standing.{beginning, begun, left, lexeme_of, next_goes_on, next_of, opened, opening, place_of, marked, next_at_margin, next_not_left, standing_shown, starts_innermost, taken};
+ghost use Rattle.hr_layout.specs.Standing.{beginning, begun, left, lexeme_of, next_goes_on, next_of, opened, opened_as, opening, place_of, marked, next_at_margin, next_not_left, starts_innermost, taken};
 
 use crate::blocks::Blocks;
 use crate::margin::{at_margin, ends_before, goes_on, left_of, opens};
-use crate::place::shown;
+use crate::place::place_behind;
 use hr_base::{Ending, Item, Lexeme, Pos, Seq};
-use hr_rules::{BlockKind, OpenBlock, Opened, Placed, Reached, Role, has_newline, role_of};
+use hr_rules::{BlockKind, OpenBlock, Opened, Placed, Role, has_newline, role_of};
 use std::alloc::{AllocError, Global};
 use std::collections::VecDeque;
 use std::marker::Model;
@@ -38,29 +38,24 @@ impl Model for Cursor {
 
 impl Cursor {
     /// A cursor at the beginning of a text, whose items these are. All positions are found here, by
-    /// one walk over the text; of a line or column beyond 32 bits, which no text of fewer than 2^29
-    /// bytes has, the greatest number is kept. The only error is want of memory.
+    /// one walk over the text. The only error is want of memory, which is also the answer where a line
+    /// or column passes 2^32 - 1; no text of fewer than 2^29 bytes has one.
     pub fn new(alloc: Global, list: Seq<Item>) -> Result<Cursor, AllocError>
-        ensures shown { IfOk result (λ cursor. cursor ≡ standing_shown (beginning list)) }
-        ensures exact { length (joined list []) < 2 ^ 29 → IfOk result (λ cursor. cursor ≡ beginning list) }
+        ensures { IfOk result (λ cursor. cursor ≡ beginning list) }
     {
         let mut placed = Vec::with_capacity(alloc, list.len())?;
-        let mut reached = Reached::origin();
+        let mut end = Pos { line: 1, col: 1 };
         let mut is_first = true;
         for item in list.list {
-            let lexeme = reached.behind(item.trivia.as_slice());
+            let pos = place_behind(end, item.trivia.as_slice())?;
             let first = is_first || has_newline(item.trivia.as_slice());
-            reached = lexeme.behind(item.lexeme.text.as_slice());
+            end = place_behind(pos, item.lexeme.text.as_slice())?;
             is_first = false;
-            placed.push(Placed {
-                item,
-                pos: shown(lexeme),
-                first,
-            })?;
+            placed.push(Placed { item, pos, first })?;
         }
         Ok(Cursor {
             rest: VecDeque::from_vec(placed),
-            end: shown(reached),
+            end,
             blocks: Blocks::new(alloc),
             behind_of: false,
         })
@@ -104,21 +99,39 @@ impl Cursor {
         }
     }
 
-    /// Opens a block behind a block keyword or at a module's body. Where it is explicit the brace is
-    /// open, and the caller takes the `{`; where it is empty no block is open, and the next lexeme
-    /// counts as first on its line. Alternatives open behind `of`, the module's body where no block
-    /// is open, and else declarations. The only error is want of memory, and it leaves the cursor as
-    /// it was.
+    /// Opens a block behind `let`, `where` or `of`. Where it is explicit the brace is open, and the
+    /// caller takes the `{`; where it is empty no block is open, and the next lexeme counts as first on
+    /// its line. Its parts are alternatives behind `of`, and else declarations. The only error is want
+    /// of memory, and it leaves the cursor as it was.
     pub fn open(&mut self) -> Result<Opened, AllocError>
         ensures how { IfOk result (λ how. how ≡ opening self.old) }
         ensures opens { self.new ≡ (if is_ok result then opened self.old else self.old) }
     {
+        let kind = if self.behind_of {
+            BlockKind::Alternatives
+        } else {
+            BlockKind::Declarations
+        };
+        self.open_as(kind)
+    }
+
+    /// Opens the body of a module, behind the `where` of its header or where its text begins, as `open`
+    /// does other blocks.
+    pub fn open_body(&mut self) -> Result<Opened, AllocError>
+        ensures how { IfOk result (λ how. how ≡ opening self.old) }
+        ensures opens { self.new ≡ (if is_ok result then opened_as BlockKind.Body self.old else self.old) }
+    {
+        self.open_as(BlockKind::Body)
+    }
+
+    /// Opens a block of the kind.
+    fn open_as(&mut self, kind: BlockKind) -> Result<Opened, AllocError>
+        ensures how { IfOk result (λ how. how ≡ opening self.old) }
+        ensures opens { self.new ≡ (if is_ok result then opened_as kind self.old else self.old) }
+    {
         let opening = self.opening();
         match opening {
-            Opened::Implicit { col } => {
-                let kind = self.blocks.kind_of_block(self.behind_of);
-                self.blocks.push(OpenBlock::Implicit { col, kind })?;
-            }
+            Opened::Implicit { col } => self.blocks.push(OpenBlock::Implicit { col, kind })?,
             Opened::Explicit => self.blocks.push(OpenBlock::Explicit)?,
             Opened::Empty => self.mark(true),
         }

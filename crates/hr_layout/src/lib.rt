@@ -7,8 +7,6 @@ mod cursor;
 mod follow;
 mod margin;
 mod place;
-#[cfg(test)]
-mod tests;
 
 pub use cursor::Cursor;
 pub use follow::can_follow;

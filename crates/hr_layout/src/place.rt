@@ -1,23 +1,29 @@
-//! Positions as a cursor shows them.
-ghost use Rattle.std.specs.Prelude.{◌≡◌, min};
-ghost use Rattle.hr_rules.specs.Counted.{pos_of};
-ghost use Rattle.hr_layout.specs.Standing.{shown};
+//! Positions that fit into 32 bits.
+ghost use Rattle.std.specs.Prelude.{◌≡◌, IfOk};
+ghost use Rattle.hr_rules.specs.Positions.{behind};
 
 use hr_base::Pos;
 use hr_rules::Reached;
+use std::alloc::AllocError;
 
-/// The position, of which a line or column beyond 32 bits stays at the greatest number.
-pub(crate) fn shown(reached: Reached) -> Pos
-    ensures { result ≡ shown (pos_of reached) }
+/// The position behind bytes whose first one stands at the position. Where its line or column passes
+/// 2^32 - 1 the answer is want of memory: no text has room for so many characters.
+pub(crate) fn place_behind(pos: Pos, bytes: &[u8]) -> Result<Pos, AllocError>
+    ensures { IfOk result (λ to. to ≡ behind pos bytes.now) }
 {
-    Pos {
-        line: narrowed(reached.line),
-        col: narrowed(reached.col),
-    }
+    let begun = Reached {
+        line: pos.line.into(),
+        col: pos.col.into(),
+    };
+    let reached = begun.behind(bytes);
+    Ok(Pos {
+        line: narrowed(reached.line)?,
+        col: narrowed(reached.col)?,
+    })
 }
 
-fn narrowed(number: u64) -> u32
-    ensures { result ≡ min u32.MAX number }
+fn narrowed(number: u64) -> Result<u32, AllocError>
+    ensures { IfOk result (λ narrow. narrow ≡ number) }
 {
-    u32::try_from(number).unwrap_or(u32::MAX)
+    u32::try_from(number).map_err(|_| AllocError)
 }

@@ -77,12 +77,11 @@ opened_before (Opened.Implicit col) rest = rest
 opened_before Opened.Explicit rest = rest
 opened_before Opened.Empty rest = mark true rest
 
--- the kind of a block that opens: alternatives behind `of`, the module's body where no block is open, and
--- else declarations
-abbrev pub kind_of_block : Bool → List OpenBlock → BlockKind
-kind_of_block true blocks = BlockKind.Alternatives
-kind_of_block false [] = BlockKind.Body
-kind_of_block false (block ∷ outer) = BlockKind.Declarations
+-- the kind of a block that opens behind a keyword: alternatives behind `of`, declarations behind `let` and
+-- `where`
+abbrev pub kind_of_block : Bool → BlockKind
+kind_of_block true = BlockKind.Alternatives
+kind_of_block false = BlockKind.Declarations
 
 -- the blocks that are open behind a lexeme: a closing brace leaves the innermost block if that one has braces
 abbrev pub blocks_behind : Role → List OpenBlock → List OpenBlock
