@@ -114,3 +114,24 @@ fn escaped(letter: u8) -> Option<u8> {
         _ => None,
     }
 }
+
+/// The bytes in the notation: each printable byte of ASCII as itself, but for the backslash.
+pub fn spelled(alloc: Global, bytes: &[u8]) -> Result<String, AllocError> {
+    let mut text = String::new(alloc);
+    for byte in bytes {
+        match byte {
+            b'\n' => text.push_str("\\n")?,
+            b'\r' => text.push_str("\\r")?,
+            b'\t' => text.push_str("\\t")?,
+            b'\x0C' => text.push_str("\\f")?,
+            b'\x0B' => text.push_str("\\v")?,
+            b'\\' => text.push_str("\\\\")?,
+            b' '..=b'~' => text.push(char::from(*byte))?,
+            _ => {
+                let hex = format!(in alloc; "\\x{byte:02X}")?;
+                text.push_str(hex.as_str())?;
+            }
+        }
+    }
+    Ok(text)
+}
