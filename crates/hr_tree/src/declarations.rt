@@ -3,14 +3,14 @@ use hr_base::{Item, Seq};
 use sqlite_items::Items as Children;
 
 /// What a `type`, `data` or `newtype` declares: a type's constructor and its variables.
-#[derive(Debug, Drop)]
+#[derive(Drop)]
 pub struct TypeHead {
     pub name: Item,
     pub variables: Seq<Item>,
 }
 
 /// A constructor as a `data` or `newtype` declares it.
-#[derive(Debug, Drop)]
+#[derive(Drop)]
 pub enum Construction {
     Prefix(Constructor, Children<Ty>),
     Infix(Ty, Operator, Ty),
@@ -19,7 +19,7 @@ pub enum Construction {
 }
 
 /// The type of labelled fields.
-#[derive(Debug, Drop)]
+#[derive(Drop)]
 pub struct FieldType {
     pub names: Seq<Listed<Variable>>,
     pub colons: Item,
@@ -28,7 +28,7 @@ pub struct FieldType {
 
 /// The left side of an equation: parentheses that left, the innermost left side, and behind each
 /// parenthesis that closes one pattern or more.
-#[derive(Debug, Drop)]
+#[derive(Drop)]
 pub struct LeftSide {
     pub opens: Seq<Item>,
     pub head: LeftHead,
@@ -36,7 +36,7 @@ pub struct LeftSide {
 }
 
 /// A left side without parentheses round it.
-#[derive(Debug, Drop)]
+#[derive(Drop)]
 pub enum LeftHead {
     /// A variable and one pattern or more.
     Prefix(Variable, Children<Pat>),
@@ -45,21 +45,21 @@ pub enum LeftHead {
 }
 
 /// A closing parenthesis of a left side, with the patterns behind it.
-#[derive(Debug, Drop)]
+#[derive(Drop)]
 pub struct Closed {
     pub right: Item,
     pub patterns: Children<Pat>,
 }
 
 /// A body behind `=` or `->`, or one or more of them under guards.
-#[derive(Debug, Drop)]
+#[derive(Drop)]
 pub enum Body<E> {
     Plain(Item, E),
     Guarded(Children<Guarded<E>>),
 }
 
 /// `| guard = body`, or with `->`.
-#[derive(Debug, Drop)]
+#[derive(Drop)]
 pub struct Guarded<E> {
     pub bar: Item,
     pub guard: E,
@@ -68,7 +68,7 @@ pub struct Guarded<E> {
 }
 
 /// `where` and its block.
-#[derive(Debug, Drop)]
+#[derive(Drop)]
 pub struct Where<D> {
     pub word: Item,
     pub block: Block<D>,

@@ -7,7 +7,7 @@ use sqlite_items::{Boxed, Items as Children};
 
 /// An expression: the Haskell 98 Report, section 3.
 #[cycle(tree)]
-#[derive(Debug, Drop)]
+#[derive(Drop)]
 pub enum Exp {
     Variable(Variable),
     Constructor(Constructor),
@@ -49,7 +49,7 @@ pub enum Exp {
 
 /// A declaration: the Haskell 98 Report, section 4. The first four stand in a module's body alone.
 #[cycle(tree)]
-#[derive(Debug, Drop)]
+#[derive(Drop)]
 pub enum Decl {
     Import(Import),
     /// `type T a = t`
@@ -69,7 +69,7 @@ pub enum Decl {
 
 /// An alternative of a `case`.
 #[cycle(tree)]
-#[derive(Debug, Drop)]
+#[derive(Drop)]
 pub struct Alt {
     pub pattern: Pat,
     pub body: Body<Exp>,
@@ -78,7 +78,7 @@ pub struct Alt {
 
 /// A qualifier of a comprehension: `p <- e`, `let block`, or a test.
 #[cycle(tree)]
-#[derive(Debug, Drop)]
+#[derive(Drop)]
 pub enum Qualifier {
     Generator(Pat, Item, Boxed<Exp>),
     Locals(Item, Block<Decl>),

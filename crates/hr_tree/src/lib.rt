@@ -25,6 +25,3 @@ pub use patterns::Pat;
 pub use search::at;
 pub use types::Ty;
 pub use yields::items;
-
-#[cfg(test)]
-mod tests;

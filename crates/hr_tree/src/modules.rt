@@ -2,7 +2,7 @@ use crate::{Block, Constructor, Decl, Listed, Variable};
 use hr_base::{Item, Seq, Text};
 
 /// A module, and the blanks and comments behind its last lexeme. One without a header is a body alone.
-#[derive(Debug, Drop)]
+#[derive(Drop)]
 pub struct Module {
     pub header: Option<Header>,
     pub body: Block<Decl>,
@@ -10,7 +10,7 @@ pub struct Module {
 }
 
 /// `module M (..) where`
-#[derive(Debug, Drop)]
+#[derive(Drop)]
 pub struct Header {
     pub word: Item,
     pub name: Item,
@@ -19,7 +19,7 @@ pub struct Header {
 }
 
 /// A list of exports or imports in parentheses, with its last comma if it has one.
-#[derive(Debug, Drop)]
+#[derive(Drop)]
 pub struct NameList<T> {
     pub left: Item,
     pub list: Seq<Listed<T>>,
@@ -27,7 +27,7 @@ pub struct NameList<T> {
     pub right: Item,
 }
 
-#[derive(Debug, Drop)]
+#[derive(Drop)]
 pub enum Export {
     Variable(Variable),
     Type(Item, Option<Members>),
@@ -36,14 +36,14 @@ pub enum Export {
 }
 
 /// The constructors that are named with a type: `(..)`, or some of them.
-#[derive(Debug, Drop)]
+#[derive(Drop)]
 pub enum Members {
     All(Item, Item, Item),
     Named(Item, Seq<Listed<Constructor>>, Item),
 }
 
 /// `import qualified M as N hiding (..)`
-#[derive(Debug, Drop)]
+#[derive(Drop)]
 pub struct Import {
     pub word: Item,
     pub qualified: Option<Item>,
@@ -53,20 +53,20 @@ pub struct Import {
 }
 
 /// `as N`
-#[derive(Debug, Drop)]
+#[derive(Drop)]
 pub struct Alias {
     pub word: Item,
     pub name: Item,
 }
 
 /// The names that an import brings, or with `hiding` leaves out.
-#[derive(Debug, Drop)]
+#[derive(Drop)]
 pub struct ImportNames {
     pub hiding: Option<Item>,
     pub list: NameList<Imported>,
 }
 
-#[derive(Debug, Drop)]
+#[derive(Drop)]
 pub enum Imported {
     Variable(Variable),
     Type(Item, Option<Members>),

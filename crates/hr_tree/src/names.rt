@@ -1,7 +1,7 @@
 use hr_base::{Item, Seq};
 
 /// A variable that stands for itself: a name, or an operator in parentheses.
-#[derive(Debug, Drop)]
+#[derive(Drop)]
 pub enum Variable {
     Name(Item),
     Symbol(Item, Item, Item),
@@ -9,7 +9,7 @@ pub enum Variable {
 
 /// A constructor, or a type's constructor: a name, an operator (or `->`) in parentheses, `()`, `[]`,
 /// or commas in parentheses.
-#[derive(Debug, Drop)]
+#[derive(Drop)]
 pub enum Constructor {
     Name(Item),
     Symbol(Item, Item, Item),
@@ -19,7 +19,7 @@ pub enum Constructor {
 }
 
 /// An operator that stands between operands: of symbols, or a name in backquotes.
-#[derive(Debug, Drop)]
+#[derive(Drop)]
 pub enum Operator {
     Symbol(Item),
     Quoted(Item, Item, Item),

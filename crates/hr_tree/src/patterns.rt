@@ -3,7 +3,7 @@ use hr_base::Item;
 use sqlite_items::{Boxed, Items as Children};
 
 /// A pattern: the Haskell 98 Report, section 3.17.
-#[derive(Debug, Drop)]
+#[derive(Drop)]
 pub enum Pat {
     Variable(Variable),
     Wildcard(Item),

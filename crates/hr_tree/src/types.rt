@@ -3,7 +3,7 @@ use hr_base::Item;
 use sqlite_items::{Boxed, Items as Children};
 
 /// A type: the Haskell 98 Report, section 4.1.2. An applied constructor has one argument or more.
-#[derive(Debug, Drop)]
+#[derive(Drop)]
 pub enum Ty {
     Variable(Item),
     Constructor(Constructor),

@@ -47,6 +47,13 @@ pub fn items(alloc: Global, tree: &Module) -> Result<Items, AllocError>
     let Copies { list } = copies;
     Ok(Items {
         list: Seq { list },
-        tail: Text::from_slice(alloc, tree.tail.as_slice())?,
+        tail: tail_of(tree)?,
     })
+}
+
+/// What is behind the last lexeme.
+fn tail_of(tree: &Module) -> Result<Text, AllocError>
+    ensures { IfOk result (λ tail. tail ≡ tree.now.tail) }
+{
+    tree.tail.clone()
 }

@@ -7,9 +7,7 @@ ghost use Rattle.hr_tree.specs.Yields.{export_items, header_items, import_items,
 
 use crate::walk::Visitor;
 use crate::walk::expressions::walk_decls;
-use crate::walk::names::{
-    visit_closing, visit_maybe, visit_opening, walk_constructor, walk_variable,
-};
+use crate::walk::names::{visit_maybe, visit_two, walk_constructor, walk_variable};
 use crate::{
     Alias, Constructor, Export, Header, Import, ImportNames, Imported, Listed, Members, Module,
     NameList,
@@ -19,10 +17,7 @@ pub fn walk_module<V: Visitor>(tree: &Module, visitor: &mut V) -> Result<(), V::
     ensures { OnOk result (visitor.new ≡ fold V.behind visitor.old (module_items tree.now)) }
 {
     walk_header(&tree.header, visitor)?;
-    visit_opening(&tree.body.layout, visitor)?;
-    walk_decls(tree.body.pieces.as_slice(), visitor)?;
-    visit_closing(&tree.body.layout, visitor)?;
-    Ok(())
+    walk_decls(&tree.body, visitor)
 }
 
 fn walk_header<V: Visitor>(header: &Option<Header>, visitor: &mut V) -> Result<(), V::Fault>
@@ -33,8 +28,7 @@ fn walk_header<V: Visitor>(header: &Option<Header>, visitor: &mut V) -> Result<(
             visitor.visit(&header.word)?;
             visitor.visit(&header.name)?;
             walk_maybe_exports(&header.exports, visitor)?;
-            visitor.visit(&header.opening)?;
-            Ok(())
+            visitor.visit(&header.opening)
         }
         None => Ok(()),
     }
@@ -51,8 +45,7 @@ fn walk_maybe_exports<V: Visitor>(
             visitor.visit(&exports.left)?;
             walk_exports(exports.list.as_slice(), visitor)?;
             visit_maybe(&exports.last_comma, visitor)?;
-            visitor.visit(&exports.right)?;
-            Ok(())
+            visitor.visit(&exports.right)
         }
         None => Ok(()),
     }
@@ -75,14 +68,9 @@ fn walk_export<V: Visitor>(export: &Export, visitor: &mut V) -> Result<(), V::Fa
         Export::Variable(variable) => walk_variable(variable, visitor),
         Export::Type(name, members) => {
             visitor.visit(name)?;
-            walk_maybe_members(members, visitor)?;
-            Ok(())
+            walk_maybe_members(members, visitor)
         }
-        Export::Module(word, name) => {
-            visitor.visit(word)?;
-            visitor.visit(name)?;
-            Ok(())
-        }
+        Export::Module(word, name) => { visit_two(word, name, visitor) }
     }
 }
 
@@ -96,14 +84,12 @@ fn walk_maybe_members<V: Visitor>(
         Some(Members::All(left, dots, right)) => {
             visitor.visit(left)?;
             visitor.visit(dots)?;
-            visitor.visit(right)?;
-            Ok(())
+            visitor.visit(right)
         }
         Some(Members::Named(left, list, right)) => {
             visitor.visit(left)?;
             walk_constructors(list.as_slice(), visitor)?;
-            visitor.visit(right)?;
-            Ok(())
+            visitor.visit(right)
         }
         None => Ok(()),
     }
@@ -137,11 +123,7 @@ fn walk_maybe_alias<V: Visitor>(alias: &Option<Alias>, visitor: &mut V) -> Resul
     ensures { OnOk result (visitor.new ≡ fold V.behind visitor.old (maybe_alias alias.now)) }
 {
     match alias {
-        Some(alias) => {
-            visitor.visit(&alias.word)?;
-            visitor.visit(&alias.name)?;
-            Ok(())
-        }
+        Some(alias) => { visit_two(&alias.word, &alias.name, visitor) }
         None => Ok(()),
     }
 }
@@ -155,8 +137,7 @@ fn walk_maybe_names<V: Visitor>(
     match names {
         Some(names) => {
             visit_maybe(&names.hiding, visitor)?;
-            walk_name_list(&names.list, visitor)?;
-            Ok(())
+            walk_name_list(&names.list, visitor)
         }
         None => Ok(()),
     }
@@ -189,8 +170,7 @@ fn walk_one_imported<V: Visitor>(imported: &Imported, visitor: &mut V) -> Result
         Imported::Variable(variable) => walk_variable(variable, visitor),
         Imported::Type(name, members) => {
             visitor.visit(name)?;
-            walk_maybe_members(members, visitor)?;
-            Ok(())
+            walk_maybe_members(members, visitor)
         }
     }
 }

@@ -1,5 +1,5 @@
 //! Names, operators, braces, and items that may be there.
-ghost use Rattle.std.specs.Prelude.{◌≡◌, OnOk, fold};
+ghost use Rattle.std.specs.Prelude.{◌≡◌, ◌∷◌, [], ◌++◌, OnOk, fold};
 ghost use Rattle.hr_tree.specs.Lists.{closing_items, opening_items};
 ghost use Rattle.hr_tree.specs.Names.{maybe_item, variable_items, constructor_items, operator_items, maybe_operator};
 
@@ -14,6 +14,13 @@ pub fn visit_all<V: Visitor>(items: &[Item], visitor: &mut V) -> Result<(), V::F
         visitor.visit(item)?;
     }
     Ok(())
+}
+
+pub fn visit_two<V: Visitor>(first: &Item, second: &Item, visitor: &mut V) -> Result<(), V::Fault>
+    ensures { OnOk result (visitor.new ≡ fold V.behind visitor.old (first.now ∷ second.now ∷ [])) }
+{
+    visitor.visit(first)?;
+    visitor.visit(second)
 }
 
 pub fn visit_maybe<V: Visitor>(item: &Option<Item>, visitor: &mut V) -> Result<(), V::Fault>
@@ -82,6 +89,30 @@ pub fn walk_operator<V: Visitor>(operator: &Operator, visitor: &mut V) -> Result
         }
     }
     Ok(())
+}
+
+/// An operator, and the lexeme behind it.
+pub fn walk_operator_before<V: Visitor>(
+    operator: &Operator,
+    item: &Item,
+    visitor: &mut V,
+) -> Result<(), V::Fault>
+    ensures { OnOk result (visitor.new ≡ fold V.behind visitor.old (operator_items operator.now ++ item.now ∷ [])) }
+{
+    walk_operator(operator, visitor)?;
+    visitor.visit(item)
+}
+
+/// A lexeme, and the operator behind it.
+pub fn walk_operator_behind<V: Visitor>(
+    item: &Item,
+    operator: &Operator,
+    visitor: &mut V,
+) -> Result<(), V::Fault>
+    ensures { OnOk result (visitor.new ≡ fold V.behind visitor.old (item.now ∷ operator_items operator.now)) }
+{
+    visitor.visit(item)?;
+    walk_operator(operator, visitor)
 }
 
 pub fn walk_maybe_operator<V: Visitor>(

@@ -12,5 +12,5 @@ pub returns : goal.returns
 returns c =
     let walked = c.in_ok-walk_module.ensures ∙ put_behind c.new.result.items (module_items c.args.tree.now) ∙ ap (λ l. l ++ module_items c.args.tree.now) c.new.ensures.items in
     let list : c.copies.inside.list.items ≡ module_items c.args.tree.now = cc (walked, c.copies.view_is) in
-    let tail : c.in_ok-from_slice.field-0 ≡ c.args.tree.now.tail = c.in_ok-from_slice.ensures ∙ c.as_slice.ensures in
+    let tail : c.in_ok-tail_of.field-0 ≡ c.args.tree.now.tail = c.in_ok-tail_of.ensures in
     λ i. record { list = list i; tail = tail i }
