@@ -2,9 +2,9 @@
 //!
 //!     counts ;; 1 ;; 100 ;; 2        how many texts and how many commands
 //!     lengths ;; 1 ;; 1 ;; 20        the texts' lengths in bytes
-//!     text ;; 1 ;; 1 ;; 2 ;; 0       the text of this number, with `\n` for a linefeed
+//!     text ;; 1 ;; 1 ;; 2 ;; 0       the text of this number
 //!     line ;; 1 ;; 1 ;; 2 ;; 0 ;; 3  the line of this number of it, from 1
-//!     script ;; 1 ;; 1 ;; 2          the commands as a script, with `\n` for a linefeed
+//!     script ;; 1 ;; 1 ;; 2          the commands as a script
 #![tactic(auto)]
 
 mod shown;

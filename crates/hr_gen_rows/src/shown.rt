@@ -1,4 +1,5 @@
 use hr_gen::Generated;
+use hr_rows::spelled;
 use hr_script::write_script;
 use std::alloc::{AllocError, Global};
 
@@ -23,12 +24,12 @@ pub fn lengths(alloc: Global, made: &Generated) -> Result<String, AllocError> {
 /// The commands as a script.
 pub fn script(alloc: Global, made: &Generated) -> Result<String, AllocError> {
     let bytes = write_script(alloc, made.commands.as_slice())?;
-    escaped(alloc, bytes.as_slice())
+    spelled(alloc, bytes.as_slice())
 }
 
 /// The text of this number.
 pub fn text(alloc: Global, made: &Generated, number: Option<u32>) -> Result<String, AllocError> {
-    escaped(alloc, bytes_of(made, number))
+    spelled(alloc, bytes_of(made, number))
 }
 
 /// The line of this number, from 1, of the text of that one.
@@ -42,7 +43,7 @@ pub fn line(
     for line in bytes_of(made, text).split(|byte| *byte == b'\n') {
         left = left.saturating_sub(1);
         if left == 0 {
-            return escaped(alloc, line);
+            return spelled(alloc, line);
         }
     }
     String::from_str(alloc, "no line")
@@ -56,16 +57,4 @@ fn bytes_of(made: &Generated, number: Option<u32>) -> &[u8] {
         },
         None => b"",
     }
-}
-
-/// The text, with `\n` for a linefeed.
-fn escaped(alloc: Global, bytes: &[u8]) -> Result<String, AllocError> {
-    let mut shown = String::new(alloc);
-    for byte in bytes {
-        match *byte {
-            b'\n' => shown.push_str("\\n")?,
-            byte => shown.push(char::from(byte))?,
-        }
-    }
-    Ok(shown)
 }

@@ -1,15 +1,15 @@
 //! Rows of hr_script: scripts with their commands, and scripts as they are written.
 //!
 //!     read ;; rename Main 3:1 t\nundo     the commands, or the refusal's number and the line that it shows
-//!     written ;; undo\r\n                 the script that is written of the commands, with `\n` for a linefeed
+//!     written ;; undo\r\n                 the script that is written of the commands
 //!
 //! A command is shown by its word, and its fields in brackets with a bar between; of more than four commands
-//! their number is shown.
+//! their number is shown. Texts are spelled as in the cases.
 #![tactic(auto)]
 
 mod shown;
 
-use hr_rows::answer_all;
+use hr_rows::{answer_all, spelled};
 use hr_script::{parse_script, write_script};
 use std::alloc::{AllocError, Global};
 use std::io;
@@ -36,7 +36,7 @@ fn written(alloc: Global, bytes: &[u8]) -> Result<String, AllocError> {
     match parse_script(alloc, bytes) {
         Ok(commands) => {
             let bytes = write_script(alloc, commands.as_slice())?;
-            shown::text(alloc, bytes.as_slice())
+            spelled(alloc, bytes.as_slice())
         }
         Err(error) => shown::refusal(alloc, error),
     }

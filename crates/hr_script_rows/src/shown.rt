@@ -1,5 +1,6 @@
 //! Commands and refusals as they are shown.
 use hr_base::{Pos, Text};
+use hr_rows::spelled;
 use hr_script::{Command, ScriptError};
 use std::alloc::{AllocError, Global};
 
@@ -33,13 +34,16 @@ fn command(alloc: Global, command: &Command) -> Result<String, AllocError> {
             at(alloc, "generalise", module, *pos, name.as_slice())
         }
         Command::Move { from, name, to } => {
-            let name = text(alloc, name.as_slice())?;
-            let (from, to) = (text(alloc, from.as_slice())?, text(alloc, to.as_slice())?);
+            let name = spelled(alloc, name.as_slice())?;
+            let (from, to) = (
+                spelled(alloc, from.as_slice())?,
+                spelled(alloc, to.as_slice())?,
+            );
             format!(in alloc; "move[{from}|{name}|{to}]")
         }
         Command::Abstract { module, name } => {
-            let name = text(alloc, name.as_slice())?;
-            let module = text(alloc, module.as_slice())?;
+            let name = spelled(alloc, name.as_slice())?;
+            let module = spelled(alloc, module.as_slice())?;
             format!(in alloc; "abstract[{module}|{name}]")
         }
         Command::Undo => String::from_str(alloc, "undo"),
@@ -54,28 +58,14 @@ fn at(
     pos: Pos,
     field: &[u8],
 ) -> Result<String, AllocError> {
-    let module = text(alloc, module.as_slice())?;
-    let field = text(alloc, field)?;
+    let module = spelled(alloc, module.as_slice())?;
+    let field = spelled(alloc, field)?;
     let Pos { line, col } = pos;
     if field.is_empty() {
         format!(in alloc; "{word}[{module}|{line}|{col}]")
     } else {
         format!(in alloc; "{word}[{module}|{line}|{col}|{field}]")
     }
-}
-
-/// The text, with `\n` for a linefeed.
-pub fn text(alloc: Global, bytes: &[u8]) -> Result<String, AllocError> {
-    let text = String::from_utf8_lossy(alloc, bytes)?;
-    let mut shown = String::new(alloc);
-    for c in text.chars() {
-        if c == '\n' {
-            shown.push_str("\\n")?;
-        } else {
-            shown.push(c)?;
-        }
-    }
-    Ok(shown)
 }
 
 /// The number of the refusal, and the line that it shows.
