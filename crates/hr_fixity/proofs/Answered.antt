@@ -12,7 +12,7 @@ use Rattle.hr_fixity.specs.declared.tree.Graded.{Graded}
 use Rattle.hr_fixity.specs.declared.tree.Graded.TheVariants as tree
 use Rattle.hr_fixity.specs.Sequence.{IsInfixSequence}
 use Rattle.hr_fixity.specs.Resolved.{IsConflict, IsMemory, IsRefused, IsResolved, ShowsPair, beside, place_at, place_of}
-use Rattle.hr_fixity.specs.Reader.{IsStuckAt, close_all, run}
+use Rattle.hr_fixity.specs.Reader.{IsFirstUntaken, close_all, run}
 use Rattle.hr_fixity.proofs.Complete.{complete, finishes_once}
 use Rattle.hr_fixity.proofs.Rooted.{sound}
 use Rattle.hr_fixity.proofs.Refusals.{refused}
@@ -31,7 +31,7 @@ module _ (seq : Infix) (is : IsInfixSequence seq) where
   pub only : (t u : Graded) → IsResolved seq t → IsResolved seq u → t ≡ u
   only t u a b = finishes_once seq.root seq.parts t u (complete seq.root seq.parts t a.graded a.rooted) (complete seq.root seq.parts u b.graded b.rooted)
 
-  module _ (k : ℕ) (stop : IsStuckAt seq k) (before : List Part) (q : Part) (front : before ≡ take k seq.parts) (here : q ≡ stop.part) where
+  module _ (k : ℕ) (stop : IsFirstUntaken seq k) (before : List Part) (q : Part) (front : before ≡ take k seq.parts) (here : q ≡ stop.part) where
     pub left_place : IsSome (place_at (beside before q))
     left_place =
         let one : IsSome (place_at (beside (take k seq.parts) stop.part)) = left_there seq.root seq.parts k stop.part stop.stack is.root stop.taken stop.stops in

@@ -92,7 +92,7 @@ run root n [] os = Some os
 run root n (p ∷ ps) os = option_and_then (run root (suc n) ps) (take_part root n p os)
 
 -- the first part that can't be taken has this number
-pub record IsStuckAt (seq : Infix) (number : ℕ) : Type 0 where
+pub record IsFirstUntaken (seq : Infix) (number : ℕ) : Type 0 where
   pub part : Part
   pub stack : List Open
   pub stands : slice_get seq.parts number ≡ Some part

@@ -79,7 +79,7 @@ fn take_part(
 fn take_parts(alloc: Global, stack: &mut Stack, seq: &Infix) -> Result<Option<usize>, AllocError>
     requires sequence { IsInfixSequence seq.now }
     requires fresh { stack.old ≡ [] }
-    ensures { IfOk result (λ stop. MatchOption stop (reader.run seq.now.root 0 seq.now.parts [] ≡ Some stack.new) (reader.IsStuckAt seq.now)) }
+    ensures { IfOk result (λ stop. MatchOption stop (reader.run seq.now.root 0 seq.now.parts [] ≡ Some stack.new) (reader.IsFirstUntaken seq.now)) }
 {
     for (number, part) in seq.parts.as_slice().iter().enumerate() {
         if !take_part(alloc, stack, seq.root, number as u32, part)? {

@@ -62,18 +62,18 @@ main_text last size =
 abbrev pub texts : ℕ → ℕ → ℕ → List (List ℕ)
 texts seed modules size = module_texts seed size modules ++ main_text (modules - 1) size ∷ []
 
-abbrev pub module_name : ℕ → List ℕ
-module_name k = codes "M" ++ decimal k
+abbrev pub module_named : ℕ → List ℕ
+module_named k = codes "M" ++ decimal k
 
 abbrev pub at : ℕ → ℕ → Pos
 at line col = record { line = line; col = col }
 
 -- a module's first function is renamed, and its second one gets a parameter
 abbrev pub renaming : ℕ → Command
-renaming k = Rename (module_name k) (at 3 1) (codes "g" ++ decimal k)
+renaming k = Rename (module_named k) (at 3 1) (codes "g" ++ decimal k)
 
 abbrev pub parameter : ℕ → Command
-parameter k = AddParameter (module_name k) (at 4 1) (codes "p")
+parameter k = AddParameter (module_named k) (at 4 1) (codes "p")
 
 abbrev pub module_commands : ℕ → List Command
 module_commands zero = []

@@ -43,7 +43,7 @@ fn parameter(alloc: Global, k: u32) -> Result<Command, AllocError>
 }
 
 fn module_name(alloc: Global, k: u32) -> Result<Text, AllocError>
-    ensures { IfOk result (λ text. text ≡ spec.module_name k) }
+    ensures { IfOk result (λ text. text ≡ spec.module_named k) }
 {
     text_of(alloc, format!(in alloc; "M{k}")?.as_str())
 }

@@ -17,7 +17,7 @@ use Rattle.hr_script.specs.declared.command.Verb.{Verb}
 use Rattle.hr_script.specs.declared.command.Verb.TheVariants as verb
 use Rattle.hr_script.specs.Texts.{is_module_name, is_word}
 use Rattle.hr_script.specs.Language.{verb_of, verb_word, pos_word, texts_of, line_of, IsSpot, IsSpeakable, IsCommandLine}
-use Rattle.hr_script.specs.Reader.{verbs, has_word, verb_named, pieces, when, number_of, pos_of, spot_of, at_spot, of_two, with_text, of_three, alone, command_in}
+use Rattle.hr_script.specs.Reader.{verbs, has_word, verb_named, cut_at, when, number_in, position_in, spot_of, at_spot, of_two, with_text, of_three, without_words, command_in}
 use Rattle.hr_script.proofs.Letters.{both, both_left, both_right, word_lacks, module_lacks}
 use Rattle.hr_script.proofs.Numerals.{when_some, some_same, number_is, number_there, pos_is, pos_there, pos_lacks, decimal_lacks}
 use Rattle.hr_script.proofs.Pieces.{Lacks, cut_again}
@@ -52,7 +52,7 @@ verb_there verb.Undo = refl
 abbrev Found : Option Verb → List (List ℕ) → Command → Type 0
 Found v texts c = (v ≡ Some (verb_of c)) × ((texts ≡ texts_of c) × IsSpeakable c)
 
-alone_is : (v : Option Verb) (c : Command) → alone v ≡ Some c → Found v [] c
+alone_is : (v : Option Verb) (c : Command) → without_words v ≡ Some c → Found v [] c
 alone_is None c e = cc
 alone_is (Some verb.Undo) c e = subst (λ d. Found (Some verb.Undo) [] d) (some_same Undo c e) (refl, (refl, tt))
 alone_is (Some verb.Rename) c e = cc
@@ -68,9 +68,9 @@ alone_is (Some verb.Abstract) c e = cc
 spot_is : (m place : List ℕ) (s : List ℕ × Pos) → spot_of m place ≡ Some s → ((m ≡ s.0) × (place ≡ pos_word s.1)) × IsSpot s.0 s.1
 unfolding spot_of
 spot_is m place s e =
-    let passed = when_some (is_module_name m) (option_map (λ pos. (m, pos)) (pos_of place)) s e in by (pos_of place) refl passed.0 passed.1
+    let passed = when_some (is_module_name m) (option_map (λ pos. (m, pos)) (position_in place)) s e in by (position_in place) refl passed.0 passed.1
   where
-    by : (found : Option Pos) → pos_of place ≡ found → is_module_name m ≡ true → option_map (λ pos. (m, pos)) found ≡ Some s
+    by : (found : Option Pos) → position_in place ≡ found → is_module_name m ≡ true → option_map (λ pos. (m, pos)) found ≡ Some s
         → ((m ≡ s.0) × (place ≡ pos_word s.1)) × IsSpot s.0 s.1
     by None is named e = cc
     by (Some p) is named e =
@@ -133,9 +133,9 @@ with_text_is None n s c is e = cc
 with_text_is (Some verb.Rename) n s c is e = text_there verb.Rename s n (Rename s.0 s.1 n) c e (λ w. (refl, (refl, (is, w))))
 with_text_is (Some verb.AddParameter) n s c is e = text_there verb.AddParameter s n (AddParameter s.0 s.1 n) c e (λ w. (refl, (refl, (is, w))))
 with_text_is (Some verb.Generalise) n s c is e = text_there verb.Generalise s n (Generalise s.0 s.1 n) c e (λ w. (refl, (refl, (is, w))))
-with_text_is (Some verb.RemoveParameter) n s c is e = by (number_of n) refl e
+with_text_is (Some verb.RemoveParameter) n s c is e = by (number_in n) refl e
   where
-    by : (found : Option ℕ) → number_of n ≡ found → option_map (RemoveParameter s.0 s.1) found ≡ Some c → Found (Some verb.RemoveParameter) (s.0 ∷ pos_word s.1 ∷ n ∷ []) c
+    by : (found : Option ℕ) → number_in n ≡ found → option_map (RemoveParameter s.0 s.1) found ≡ Some c → Found (Some verb.RemoveParameter) (s.0 ∷ pos_word s.1 ∷ n ∷ []) c
     by None there e = cc
     by (Some i) there e =
         let read = number_is n i there in
@@ -191,7 +191,7 @@ command_is (v ∷ m ∷ t ∷ n ∷ o ∷ more) c e = cc
 
 spot_there : (m : List ℕ) (p : Pos) → IsSpot m p → spot_of m (pos_word p) ≡ Some (m, p)
 unfolding spot_of
-spot_there m p is = ap (λ b. when b (option_map (λ pos. (m, pos)) (pos_of (pos_word p)))) is.0 ∙ ap (option_map (λ pos. (m, pos))) (pos_there p is.1)
+spot_there m p is = ap (λ b. when b (option_map (λ pos. (m, pos)) (position_in (pos_word p)))) is.0 ∙ ap (option_map (λ pos. (m, pos))) (pos_there p is.1)
 
 two_there : (v : Verb) (m t : List ℕ) → of_two (verb_named (verb_word v)) m t ≡ of_two (Some v) m t
 two_there v m t = ap (λ x. of_two x m t) (verb_there v)
@@ -213,7 +213,7 @@ command_there (Demote m p) is = two_there verb.Demote m (pos_word p) ∙ ap (opt
 command_there (Generalise m p n) is = three_there verb.Generalise m (pos_word p) n ∙ ap (option_and_then (with_text (Some verb.Generalise) n)) (spot_there m p is.0) ∙ let_through (is_word n) (Some (Generalise m p n)) is.1
 command_there (Move a n b) is = three_there verb.Move a n b ∙ let_through (is_module_name a && (is_word n && is_module_name b)) (Some (Move a n b)) (both _ _ is.0 (both _ _ is.1.0 is.1.1))
 command_there (Abstract m t) is = two_there verb.Abstract m t ∙ let_through (is_module_name m && is_word t) (Some (Abstract m t)) (both _ _ is.0 is.1)
-command_there Undo is = ap alone (verb_there verb.Undo)
+command_there Undo is = ap without_words (verb_there verb.Undo)
 
 -- Neither a blank nor the end of a line stands in the words.
 
@@ -268,14 +268,14 @@ space_blank = refl
 
 -- The two together, for a line.
 
-pub line_is : (line : List ℕ) (c : Command) → command_in (pieces 32 line) ≡ Some c → IsCommandLine line c
+pub line_is : (line : List ℕ) (c : Command) → command_in (cut_at 32 line) ≡ Some c → IsCommandLine line c
 line_is line c e =
-    let read = command_is (pieces 32 line) c e in
+    let read = command_is (cut_at 32 line) c e in
     record { line_is = sym (join_with_byte-slice_split 32 line) ∙ ap (join_with_byte 32) read.0; speakable = read.1 }
 
-pub line_there : (line : List ℕ) (c : Command) → IsCommandLine line c → command_in (pieces 32 line) ≡ Some c
+pub line_there : (line : List ℕ) (c : Command) → IsCommandLine line c → command_in (cut_at 32 line) ≡ Some c
 line_there line c is =
-    ap (λ x. command_in (pieces 32 x)) is.line_is
+    ap (λ x. command_in (cut_at 32 x)) is.line_is
     ∙ ap command_in (cut_again 32 (verb_word (verb_of c)) (texts_of c) (words_lack c is.speakable 32 (omega arith) space_blank))
     ∙ command_there c is.speakable
 

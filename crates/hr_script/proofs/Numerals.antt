@@ -11,7 +11,7 @@ use Rattle.std.proofs.lemmas.List.Splits.{join_with_byte-slice_split}
 use Rattle.std.proofs.lemmas.Str.Parse.{IsNumeralModel, IsDigitsTest, FoldsDigits, numerals_by_fold, not_in_digits}
 use Rattle.hr_base.specs.declared.place.Pos.{Pos}
 use Rattle.hr_script.specs.Language.{IsNumber, IsPosition, pos_word}
-use Rattle.hr_script.specs.Reader.{when, begins_number, value, within, number_of, counted, pieces, pos_from, pos_in, pos_of}
+use Rattle.hr_script.specs.Reader.{when, begins_number, decimal_value, in_32_bits, number_in, from_one, cut_at, pos_from, pos_in, position_in}
 use Rattle.hr_script.proofs.Letters.{both, both_left, both_right}
 use Rattle.hr_script.proofs.Pieces.{Lacks, lacks_at, cut_again}
 
@@ -54,15 +54,15 @@ begins [] above = absurd (omega arith)
 begins (c ∷ []) above = refl
 begins (c ∷ d ∷ cs) above = grind (arith, nat_tests, above)
 
-pub number_is : (text : List ℕ) (n : ℕ) → number_of text ≡ Some n → (text ≡ decimal n) × IsNumber n
-unfolding number_of value
+pub number_is : (text : List ℕ) (n : ℕ) → number_in text ≡ Some n → (text ≡ decimal n) × IsNumber n
+unfolding number_in decimal_value
 number_is text n e =
-    let found = when_some (begins_number text && list_all is_ascii_digit text) (within (value text)) n e in
+    let found = when_some (begins_number text && list_all is_ascii_digit text) (in_32_bits (decimal_value text)) n e in
     let starts = both_left (begins_number text) (list_all is_ascii_digit text) found.0 in
     let digits = both_right (begins_number text) (list_all is_ascii_digit text) found.0 in
-    let small = when_some (nat_le (value text) 4294967295) (Some (value text)) n found.1 in
-    let less : value text ≤ 4294967295 = grind (arith, nat_tests, small.0) in
-    let same : value text ≡ n = some_same (value text) n small.1 in
+    let small = when_some (nat_le (decimal_value text) 4294967295) (Some (decimal_value text)) n found.1 in
+    let less : decimal_value text ≤ 4294967295 = grind (arith, nat_tests, small.0) in
+    let same : decimal_value text ≡ n = some_same (decimal_value text) n small.1 in
     (sym (ap decimal (sym same) ∙ decimal-digits_value own text digits (lead text starts).0 (lead text starts).1 (omega arith)), subst IsNumber same (omega arith))
 
 first_digit : (n : ℕ) → IsNumber n → 0 < length (decimal n) → begins_number (decimal n) ≡ true
@@ -71,20 +71,20 @@ first_digit (suc m) small some =
     let above : 48 < get_or (decimal (suc m)) 0 0 = first_decimal (suc m) (omega arith) (small_number (suc m) small) in
     begins (decimal (suc m)) above
 
-pub number_there : (n : ℕ) → IsNumber n → number_of (decimal n) ≡ Some n
-unfolding number_of value
+pub number_there : (n : ℕ) → IsNumber n → number_in (decimal n) ≡ Some n
+unfolding number_in decimal_value
 number_there n small =
     let some : 0 < length (decimal n) = decimal_nonempty n (small_number n small) in
     let digits : list_all is_ascii_digit (decimal n) ≡ true = digits_decimal own n (small_number n small) in
-    let is : value (decimal n) ≡ n = digits_value-decimal own n (small_number n small) in
+    let is : decimal_value (decimal n) ≡ n = digits_value-decimal own n (small_number n small) in
     let less : nat_le n 4294967295 ≡ true = grind (arith, nat_tests, small) in
-    ap (λ b. when b (within (value (decimal n)))) (both _ _ (first_digit n small some) digits)
-    ∙ ap within is ∙ ap (λ b. when b (Some n)) less
+    ap (λ b. when b (in_32_bits (decimal_value (decimal n)))) (both _ _ (first_digit n small some) digits)
+    ∙ ap in_32_bits is ∙ ap (λ b. when b (Some n)) less
 
-counted_is : (text : List ℕ) (n : ℕ) → counted (number_of text) ≡ Some n → (text ≡ decimal n) × (1 ≤ n) × IsNumber n
-counted_is text n e = by (number_of text) refl e
+counted_is : (text : List ℕ) (n : ℕ) → from_one (number_in text) ≡ Some n → (text ≡ decimal n) × (1 ≤ n) × IsNumber n
+counted_is text n e = by (number_in text) refl e
   where
-    by : (found : Option ℕ) → number_of text ≡ found → counted found ≡ Some n → (text ≡ decimal n) × (1 ≤ n) × IsNumber n
+    by : (found : Option ℕ) → number_in text ≡ found → from_one found ≡ Some n → (text ≡ decimal n) × (1 ≤ n) × IsNumber n
     by None is e = cc
     by (Some m) is e =
         let passed = when_some (nat_le 1 m) (Some m) n e in
@@ -93,12 +93,12 @@ counted_is text n e = by (number_of text) refl e
         let one : 1 ≤ n = grind (arith, nat_tests, passed.0, same) in
         (read.0, one, read.1)
 
-counted_there : (n : ℕ) → 1 ≤ n → IsNumber n → counted (number_of (decimal n)) ≡ Some n
+counted_there : (n : ℕ) → 1 ≤ n → IsNumber n → from_one (number_in (decimal n)) ≡ Some n
 counted_there n one small =
     let yes : nat_le 1 n ≡ true = grind (arith, nat_tests) in
-    ap counted (number_there n small) ∙ ap (λ b. when b (Some n)) yes
+    ap from_one (number_there n small) ∙ ap (λ b. when b (Some n)) yes
 
-pos_in_is : (line col : List ℕ) (l c : Option ℕ) (p : Pos) → counted (number_of line) ≡ l → counted (number_of col) ≡ c → pos_from l c ≡ Some p
+pos_in_is : (line col : List ℕ) (l c : Option ℕ) (p : Pos) → from_one (number_in line) ≡ l → from_one (number_in col) ≡ c → pos_from l c ≡ Some p
     → ((line ≡ decimal p.line) × (col ≡ decimal p.col)) × IsPosition p
 pos_in_is line col None c p is_l is_c e = cc
 pos_in_is line col (Some l) None p is_l is_c e = cc
@@ -108,23 +108,23 @@ pos_in_is line col (Some l) (Some c) p is_l is_c e =
     let right = counted_is col c is_c in
     subst (λ q. ((line ≡ decimal q.line) × (col ≡ decimal q.col)) × IsPosition q) same ((left.0, right.0), ((left.1, left.2), (right.1, right.2)))
 
-pub pos_is : (text : List ℕ) (p : Pos) → pos_of text ≡ Some p → (text ≡ pos_word p) × IsPosition p
-unfolding pos_of
-pos_is text p e = by (pieces 58 text) (join_with_byte-slice_split 58 text) e
+pub pos_is : (text : List ℕ) (p : Pos) → position_in text ≡ Some p → (text ≡ pos_word p) × IsPosition p
+unfolding position_in
+pos_is text p e = by (cut_at 58 text) (join_with_byte-slice_split 58 text) e
   where
     by : (words : List (List ℕ)) → join_with_byte 58 words ≡ text → pos_in words ≡ Some p → (text ≡ pos_word p) × IsPosition p
     by [] whole e = cc
     by (line ∷ []) whole e = cc
     by (line ∷ col ∷ []) whole e =
-        let read = pos_in_is line col (counted (number_of line)) (counted (number_of col)) p refl refl e in
+        let read = pos_in_is line col (from_one (number_in line)) (from_one (number_in col)) p refl refl e in
         (sym whole ∙ ap (λ x. x ++ (58 ∷ col)) read.0.0 ∙ ap (λ x. decimal p.line ++ (58 ∷ x)) read.0.1, read.1)
     by (line ∷ col ∷ more ∷ words) whole e = cc
 
-pub pos_there : (p : Pos) → IsPosition p → pos_of (pos_word p) ≡ Some p
-unfolding pos_of
+pub pos_there : (p : Pos) → IsPosition p → position_in (pos_word p) ≡ Some p
+unfolding position_in
 pos_there p is =
     ap pos_in (cut_again 58 (decimal p.line) (decimal p.col ∷ []) (decimal_lacks p.line 58 is.0.1 (inr (omega arith)), (decimal_lacks p.col 58 is.1.1 (inr (omega arith)), tt)))
-    ∙ ap (λ l. pos_from l (counted (number_of (decimal p.col)))) (counted_there p.line is.0.0 is.0.1)
+    ∙ ap (λ l. pos_from l (from_one (number_in (decimal p.col)))) (counted_there p.line is.0.0 is.0.1)
     ∙ ap (λ c. pos_from (Some p.line) c) (counted_there p.col is.1.0 is.1.1)
 
 -- what stands in no position

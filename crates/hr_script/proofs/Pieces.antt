@@ -5,7 +5,7 @@ use Rattle.std.proofs.lemmas.Bool.{eq-eqb, ne_eqb}
 use Rattle.std.proofs.lemmas.List.{get_or_default}
 use Rattle.std.proofs.lemmas.List.Sums.{AllPass-from_list_all}
 use Rattle.std.proofs.lemmas.List.Splits.{slice_split_none, slice_split_at}
-use Rattle.hr_script.specs.Reader.{pieces}
+use Rattle.hr_script.specs.Reader.{cut_at}
 
 -- the separator stands nowhere in the text
 abbrev pub Lacks : ℕ → List ℕ → Type 0
@@ -24,7 +24,7 @@ lacks_at c text each = λ k d within.
     subst (λ b. (b == c) ≡ false) (get_or_default text k 0 d within) (ne_eqb (get_or text k 0) c (each k within))
 
 pub cut_again : (c : ℕ) (word : List ℕ) (words : List (List ℕ)) → AllByRecursion (Lacks c) (word ∷ words)
-    → pieces c (join_with_byte c (word ∷ words)) ≡ word ∷ words
+    → cut_at c (join_with_byte c (word ∷ words)) ≡ word ∷ words
 cut_again c word [] lacks = slice_split_none (λ b. b == c) word lacks.0
 cut_again c word (next ∷ words) lacks =
     slice_split_at (λ b. b == c) word c (join_with_byte c (next ∷ words)) lacks.0 (eq-eqb c c refl)

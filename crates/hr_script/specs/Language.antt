@@ -117,6 +117,6 @@ abbrev pub IsLine : List ℕ → Type 0
 IsLine line = (is_skipped line ≡ true) ⊎ ((c : Command) × IsCommandLine line c)
 
 -- the bytes as they are written: a linefeed ends each line
-abbrev pub written : List Command → List ℕ
-written [] = []
-written (c ∷ cs) = line_of c ++ 10 ∷ written cs
+abbrev pub script_bytes : List Command → List ℕ
+script_bytes [] = []
+script_bytes (c ∷ cs) = line_of c ++ 10 ∷ script_bytes cs

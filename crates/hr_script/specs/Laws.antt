@@ -5,7 +5,7 @@ use Rattle.std.specs.Str.Lines.{lines}
 use Rattle.hr_script.specs.declared.command.Command.{Command}
 use Rattle.hr_script.specs.declared.error.ScriptError.{ScriptError}
 use Rattle.hr_script.specs.declared.error.ScriptError.TheVariants.{BadLine, TooManySteps, Memory}
-use Rattle.hr_script.specs.Language.{Script, IsLine, IsSpeakable, written}
+use Rattle.hr_script.specs.Language.{Script, IsLine, IsSpeakable, script_bytes}
 
 -- as many commands as a script may have
 abbrev pub step_limit : ℕ
@@ -43,4 +43,4 @@ OneScript = (bytes : List ℕ) (cs ds : List Command) → Script bytes cs → Sc
 
 -- what is written of commands whose texts are of the language is a script of them
 abbrev pub WrittenParsesBack : Type 0
-WrittenParsesBack = (cs : List Command) → AllByRecursion IsSpeakable cs → Script (written cs) cs
+WrittenParsesBack = (cs : List Command) → AllByRecursion IsSpeakable cs → Script (script_bytes cs) cs

@@ -23,8 +23,8 @@ abbrev pub verb_named : List ℕ → Option Verb
 verb_named word = find (has_word word) verbs
 
 -- the pieces between the separators
-abbrev pub pieces : ℕ → List ℕ → List (List ℕ)
-pieces separator text = slice_split (λ b. b == separator) text
+abbrev pub cut_at : ℕ → List ℕ → List (List ℕ)
+cut_at separator text = slice_split (λ b. b == separator) text
 
 abbrev pub when : {A : Type 0} → Bool → Option A → Option A
 when test found = cond test found None
@@ -36,37 +36,37 @@ begins_number (c ∷ []) = true
 begins_number (c ∷ d ∷ cs) = nat_lt 48 c
 
 -- what decimal digits stand for
-unfoldable pub value : List ℕ → ℕ
-value digits = fold (λ n c. n * 10 + (c - 48)) 0 digits
+unfoldable pub decimal_value : List ℕ → ℕ
+decimal_value digits = fold (λ n c. n * 10 + (c - 48)) 0 digits
 
 -- a number of 32 bits
-abbrev pub within : ℕ → Option ℕ
-within n = when (nat_le n 4294967295) (Some n)
+abbrev pub in_32_bits : ℕ → Option ℕ
+in_32_bits n = when (nat_le n 4294967295) (Some n)
 
 -- the decimal number that the text is, without leading zeros
-unfoldable pub number_of : List ℕ → Option ℕ
-number_of text = when (begins_number text && list_all is_ascii_digit text) (within (value text))
+unfoldable pub number_in : List ℕ → Option ℕ
+number_in text = when (begins_number text && list_all is_ascii_digit text) (in_32_bits (decimal_value text))
 
 -- a number from 1 on
-abbrev pub counted : Option ℕ → Option ℕ
-counted None = None
-counted (Some n) = when (nat_le 1 n) (Some n)
+abbrev pub from_one : Option ℕ → Option ℕ
+from_one None = None
+from_one (Some n) = when (nat_le 1 n) (Some n)
 
 abbrev pub pos_from : Option ℕ → Option ℕ → Option Pos
 pos_from (Some line) (Some col) = Some (record { line = line; col = col })
 pos_from _ _ = None
 
 abbrev pub pos_in : List (List ℕ) → Option Pos
-pos_in (line ∷ col ∷ []) = pos_from (counted (number_of line)) (counted (number_of col))
+pos_in (line ∷ col ∷ []) = pos_from (from_one (number_in line)) (from_one (number_in col))
 pos_in _ = None
 
 -- the position that the text is: two numbers with a colon (58) between
-unfoldable pub pos_of : List ℕ → Option Pos
-pos_of text = pos_in (pieces 58 text)
+unfoldable pub position_in : List ℕ → Option Pos
+position_in text = pos_in (cut_at 58 text)
 
 -- a module's name and a position
 unfoldable pub spot_of : List ℕ → List ℕ → Option (List ℕ × Pos)
-spot_of m place = when (is_module_name m) (option_map (λ pos. (m, pos)) (pos_of place))
+spot_of m place = when (is_module_name m) (option_map (λ pos. (m, pos)) (position_in place))
 
 abbrev pub at_spot : Option Verb → List ℕ × Pos → Option Command
 at_spot (Some verb.LiftOne) s = Some (LiftOne s.0 s.1)
@@ -82,20 +82,20 @@ abbrev pub with_text : Option Verb → List ℕ → List ℕ × Pos → Option C
 with_text (Some verb.Rename) n s = when (is_word n) (Some (Rename s.0 s.1 n))
 with_text (Some verb.AddParameter) n s = when (is_word n) (Some (AddParameter s.0 s.1 n))
 with_text (Some verb.Generalise) n s = when (is_word n) (Some (Generalise s.0 s.1 n))
-with_text (Some verb.RemoveParameter) n s = option_map (RemoveParameter s.0 s.1) (number_of n)
+with_text (Some verb.RemoveParameter) n s = option_map (RemoveParameter s.0 s.1) (number_in n)
 with_text _ n s = None
 
 unfoldable pub of_three : Option Verb → List ℕ → List ℕ → List ℕ → Option Command
 of_three (Some verb.Move) a n b = when (is_module_name a && (is_word n && is_module_name b)) (Some (Move a n b))
 of_three v m place n = option_and_then (with_text v n) (spot_of m place)
 
-abbrev pub alone : Option Verb → Option Command
-alone (Some verb.Undo) = Some Undo
-alone _ = None
+abbrev pub without_words : Option Verb → Option Command
+without_words (Some verb.Undo) = Some Undo
+without_words _ = None
 
 -- the command that the words are
 unfoldable pub command_in : List (List ℕ) → Option Command
-command_in (v ∷ []) = alone (verb_named v)
+command_in (v ∷ []) = without_words (verb_named v)
 command_in (v ∷ m ∷ t ∷ []) = of_two (verb_named v) m t
 command_in (v ∷ m ∷ t ∷ n ∷ []) = of_three (verb_named v) m t n
 command_in _ = None

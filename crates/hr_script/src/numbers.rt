@@ -9,15 +9,15 @@ use std::alloc::{AllocError, Global};
 
 /// The pieces between the separators.
 pub(crate) fn pieces(alloc: Global, text: &[u8], separator: u8) -> Result<Vec<&[u8]>, AllocError>
-    ensures { IfOk result (λ pieces. map (λ piece. piece.now) pieces.items ≡ reader.pieces separator text.now) }
+    ensures { IfOk result (λ pieces. map (λ piece. piece.now) pieces.items ≡ reader.cut_at separator text.now) }
 {
     text.split(|byte| *byte == separator).collect(alloc)
 }
 
 /// The number that the text is, if 32 bits hold it.
-#[tactic(auto, unfolding(crate::specs::Reader::number_of))]
+#[tactic(auto, unfolding(crate::specs::Reader::number_in))]
 pub(crate) fn number_of(text: &[u8]) -> Option<u32>
-    ensures { result ≡ reader.number_of text.now }
+    ensures { result ≡ reader.number_in text.now }
 {
     if begins_number(text) && all_digits(text) {
         value_of(text)
@@ -43,9 +43,9 @@ fn all_digits(text: &[u8]) -> bool
 }
 
 /// What decimal digits stand for, if 32 bits hold it.
-#[tactic(auto, unfolding(crate::specs::Reader::value))]
+#[tactic(auto, unfolding(crate::specs::Reader::decimal_value))]
 fn value_of(digits: &[u8]) -> Option<u32>
-    ensures { result ≡ reader.within (reader.value digits.now) }
+    ensures { result ≡ reader.in_32_bits (reader.decimal_value digits.now) }
 {
     let mut value = 0u64;
     for digit in digits {
@@ -62,7 +62,7 @@ const GREATEST: u64 = 4_294_967_295;
 
 /// The number that the text is, if it is 1 or more.
 fn counted(text: &[u8]) -> Option<u32>
-    ensures { result ≡ reader.counted (reader.number_of text.now) }
+    ensures { result ≡ reader.from_one (reader.number_in text.now) }
 {
     match number_of(text) {
         Some(0) => None,
@@ -71,9 +71,9 @@ fn counted(text: &[u8]) -> Option<u32>
 }
 
 /// The position that the text is, as `LINE:COLUMN`.
-#[tactic(auto, unfolding(crate::specs::Reader::pos_of))]
+#[tactic(auto, unfolding(crate::specs::Reader::position_in))]
 pub(crate) fn pos_of(alloc: Global, text: &[u8]) -> Result<Option<Pos>, AllocError>
-    ensures { IfOk result (λ found. found ≡ reader.pos_of text.now) }
+    ensures { IfOk result (λ found. found ≡ reader.position_in text.now) }
 {
     match pieces(alloc, text, b':')?.as_slice() {
         [line, col] => match (counted(line), counted(col)) {

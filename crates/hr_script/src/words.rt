@@ -11,7 +11,7 @@ use std::alloc::{AllocError, Global};
 
 /// The command that the line is, if it is one.
 pub(crate) fn command_of(alloc: Global, line: &[u8]) -> Result<Option<Command>, AllocError>
-    ensures { IfOk result (λ found. found ≡ reader.command_in (reader.pieces 32 line.now)) }
+    ensures { IfOk result (λ found. found ≡ reader.command_in (reader.cut_at 32 line.now)) }
 {
     let words = pieces(alloc, line, b' ')?;
     command_in(alloc, words.as_slice())
@@ -35,7 +35,7 @@ fn command_in(alloc: Global, words: &[&[u8]]) -> Result<Option<Command>, AllocEr
 }
 
 fn alone(verb: Option<Verb>) -> Option<Command>
-    ensures { result ≡ reader.alone verb }
+    ensures { result ≡ reader.without_words verb }
 {
     match verb {
         Some(Verb::Undo) => Some(Command::Undo),

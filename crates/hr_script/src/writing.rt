@@ -1,7 +1,7 @@
 ghost use Rattle.std.specs.Prelude.{◌≡◌, ◌++◌, ◌∷◌, [], IfOk, OnOk, map};
 ghost use Rattle.std.specs.List.{join_with_byte};
 ghost use Rattle.std.specs.String.{string_bytes};
-ghost use Rattle.hr_script.specs.Language.{line_of, pos_word, verb_word, written};
+ghost use Rattle.hr_script.specs.Language.{line_of, pos_word, verb_word, script_bytes};
 
 use crate::{Command, Verb};
 use hr_base::{Pos, Text};
@@ -10,7 +10,7 @@ use std::alloc::{AllocError, Global};
 /// The bytes of a script: a line for each command, each ended by a linefeed. Where the texts of the commands
 /// are words of the language, they parse back to the commands.
 pub fn write_script(alloc: Global, commands: &[Command]) -> Result<Vec<u8>, AllocError>
-    ensures { IfOk result (λ bytes. bytes.items ≡ written commands.now) }
+    ensures { IfOk result (λ bytes. bytes.items ≡ script_bytes commands.now) }
 {
     let mut bytes = Vec::new(alloc);
     for command in commands {
