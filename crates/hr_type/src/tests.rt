@@ -1,6 +1,6 @@
 use crate::{Mono, Scheme, TypeScope, has_arities, instance, print_in};
 use hr_base::{Entity, Name, Seq, Space, Text};
-use sqlite_items::{Boxed, Items};
+use hr_items::{Boxed, Items};
 use std::alloc::{AllocError, Global};
 use std::process::Abort;
 use std::test::Fail;
@@ -95,8 +95,8 @@ fn copies_are_the_same_type(rt: HostRuntime) -> Result<(), Fail> {
         maybe(alloc, Mono::Var(0))?,
         list(alloc, int(alloc)?)?,
     )?;
-    assert!(rt; ty.copied(alloc)?.is_same(&ty));
-    assert!(rt; !int(alloc)?.is_same(&maybe(alloc, int(alloc)?)?));
+    assert!(rt; ty.copied(alloc)?.is_same(alloc, &ty)?);
+    assert!(rt; !int(alloc)?.is_same(alloc, &maybe(alloc, int(alloc)?)?)?);
     Ok(())
 }
 
@@ -145,7 +145,9 @@ fn is_written(
     ty: &Mono,
     expected: Option<&[u8]>,
 ) -> Result<bool, AllocError> {
-    assert!(rt; has_arities(ty));
+    if !has_arities(alloc, ty)? {
+        return Ok(false);
+    }
     let scope = scope(alloc)?;
     let Some(text) = print_in(alloc, ty, &scope)? else {
         return Ok(expected.is_none());
