@@ -7,10 +7,11 @@ use Rattle.std.proofs.Math.Seq.{take-append_seam, drop-append_seam}
 use Rattle.hr_base.specs.declared.bind.Entity.{Entity}
 use Rattle.hr_type.specs.declared.mono.Mono.{Mono}
 use Rattle.hr_type.specs.declared.mono.Mono.TheVariants.{Var, Con, Fun, outs-Var, outs-Con, outs-Fun}
+use Rattle.hr_type.specs.declared.mono.Mono.TheOpen.{Mono-F}
 use Rattle.hr_type.specs.declared.spell.TypeScope.{TypeScope}
-use Rattle.hr_type.specs.Heads.{Head, variable_head, head, arrow_head, layer_head, head_of, layer_parts, parts, joined, posts, placed, built}
+use Rattle.hr_type.specs.Heads.{Head, variable_head, head, arrow_head, layer_head, head_of, layer_parts, parts, joined, last_function, posts, placed, built}
 use Rattle.hr_type.specs.Sizes.{size, depth, total, greatest, reach}
-use Rattle.hr_type.specs.Spelling.{has_arities, has_arity, layer_arity, is_spellable, has_spelling, layer_spelling}
+use Rattle.hr_type.specs.Spelling.{brackets_of, fits_arity, has_arities, has_arity, layer_arity, is_spellable, has_spelling, layer_spelling}
 use Rattle.hr_type.proofs.Terms.{every_type, value-var, value-con, value-fun}
 use Rattle.hr_type.proofs.Freeing.{total-append, size_var, size_con, size_fun}
 
@@ -80,7 +81,7 @@ unfolding has_arity
 arities_parts =
     by_kind (λ t. has_arities t ≡ (has_arity t && every has_arities (parts t)))
     (λ n. value-var _ _ _ _ n ∙ sym (ap (λ ts. has_arity (Var n) && every has_arities ts) (parts_var n) ∙ ap (λ x. layer_arity x && true) (outs-Var n)))
-    (λ e ts. value-con _ _ _ _ e ts ∙ ap (λ n. Rattle.hr_type.specs.Spelling.fits_arity e n (Rattle.hr_type.specs.Spelling.brackets_of e) && every has_arities ts) (length-map ts has_arities)
+    (λ e ts. value-con _ _ _ _ e ts ∙ ap (λ n. fits_arity e n (brackets_of e) && every has_arities ts) (length-map ts has_arities)
     ∙ sym (ap (λ us. has_arity (Con e ts) && every has_arities us) (parts_con e ts) ∙ ap (λ x. layer_arity x && every has_arities ts) (outs-Con e ts)))
     (λ a b. value-fun _ _ _ _ a b ∙ two_tests has_arities a b
     ∙ sym (ap (λ us. has_arity (Fun a b) && every has_arities us) (parts_fun a b) ∙ ap (λ x. layer_arity x && every has_arities (a ∷ b ∷ [])) (outs-Fun a b)))
@@ -95,6 +96,32 @@ module _ (scope : TypeScope) where
       ∙ sym (ap (λ us. has_spelling scope (Con e ts) && every (is_spellable scope) us) (parts_con e ts) ∙ ap (λ x. layer_spelling scope x && every (is_spellable scope) ts) (outs-Con e ts)))
       (λ a b. value-fun _ _ _ _ a b ∙ two_tests (is_spellable scope) a b
       ∙ sym (ap (λ us. has_spelling scope (Fun a b) && every (is_spellable scope) us) (parts_fun a b) ∙ ap (λ x. layer_spelling scope x && every (is_spellable scope) (a ∷ b ∷ [])) (outs-Fun a b)))
+
+module _ (t : Mono) where
+  pub arity_var : (n : ℕ) → t ≡ Var n → has_arity t ≡ true
+  unfolding has_arity
+  arity_var n h = ap has_arity h ∙ ap layer_arity (outs-Var n)
+
+  pub arity_con : (e : Entity) (ts : List Mono) → t ≡ Con e ts → has_arity t ≡ fits_arity e (length ts) (brackets_of e)
+  unfolding has_arity
+  arity_con e ts h = ap has_arity h ∙ ap layer_arity (outs-Con e ts)
+
+  pub arity_fun : (a b : Mono) → t ≡ Fun a b → has_arity t ≡ true
+  unfolding has_arity
+  arity_fun a b h = ap has_arity h ∙ ap layer_arity (outs-Fun a b)
+
+module _ (scope : TypeScope) (t : Mono) where
+  pub spelling_var : (n : ℕ) → t ≡ Var n → has_spelling scope t ≡ layer_spelling scope (Mono-F.Var n)
+  unfolding has_spelling
+  spelling_var n h = ap (has_spelling scope) h ∙ ap (layer_spelling scope) (outs-Var n)
+
+  pub spelling_con : (e : Entity) (ts : List Mono) → t ≡ Con e ts → has_spelling scope t ≡ layer_spelling scope (Mono-F.Con e ts)
+  unfolding has_spelling
+  spelling_con e ts h = ap (has_spelling scope) h ∙ ap (layer_spelling scope) (outs-Con e ts)
+
+  pub spelling_fun : (a b : Mono) → t ≡ Fun a b → has_spelling scope t ≡ true
+  unfolding has_spelling
+  spelling_fun a b h = ap (has_spelling scope) h ∙ ap (layer_spelling scope) (outs-Fun a b)
 
 pub posts_parts : (t : Mono) → posts t ≡ joined (map posts (parts t)) ++ head_of t ∷ []
 unfolding posts
@@ -170,9 +197,9 @@ placed_parts t ts = by_kind (λ t. (ts : List Mono) → placed (head_of t) (ts +
     of_fun a b ts =
         let two : List Mono = a ∷ b ∷ [] in
         ap (λ h. placed h (ts ++ parts (Fun a b))) (head_fun a b) ∙ ap (λ vs. placed arrow_head (ts ++ vs)) (parts_fun a b)
-        ∙ ap (λ n. take n (ts ++ two) ++ Rattle.hr_type.specs.Heads.last_function (reverse (drop n (ts ++ two))) ∷ []) (split ts two 2 refl)
-        ∙ ap (λ vs. vs ++ Rattle.hr_type.specs.Heads.last_function (reverse (drop (length ts) (ts ++ two))) ∷ []) (take-append_seam ts two)
-        ∙ ap (λ vs. ts ++ Rattle.hr_type.specs.Heads.last_function (reverse vs) ∷ []) (drop-append_seam ts two)
+        ∙ ap (λ n. take n (ts ++ two) ++ last_function (reverse (drop n (ts ++ two))) ∷ []) (split ts two 2 refl)
+        ∙ ap (λ vs. vs ++ last_function (reverse (drop (length ts) (ts ++ two))) ∷ []) (take-append_seam ts two)
+        ∙ ap (λ vs. ts ++ last_function (reverse vs) ∷ []) (drop-append_seam ts two)
 
 -- what is built of the heads of a type is the type
 Builds : Mono → Type 0

@@ -1,6 +1,8 @@
 pub mod Choices
 pub mod Freeing
+pub mod Jobbing
 pub mod Layers
+pub mod Matched
 pub mod Reading
 pub mod ReadsBack
 pub mod Spellings

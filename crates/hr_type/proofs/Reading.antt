@@ -1,5 +1,5 @@
 -- What the code learns of types: their heads, their parts, and stacks of them.
-use Rattle.std.proofs.Common.{◌≡◌, ◌≢◌, ◌↔◌, ◌⊎◌, ◌<◌, ◌≤◌, ◌+◌, ◌-◌, ℕ, suc, IsTrue, Bool, true, false, eqb, cond, List, [], ◌∷◌, ◌++◌, map, length, take, drop, get_or, reverse, Option, Some, None, Result, Ok, Err, OnOk, refl, sym, ap, ◌∙◌, subst, append_assoc, append-nil, arith, max, min, add-one, inl, inr}
+use Rattle.std.proofs.Common.{◌≡◌, ◌≢◌, ◌↔◌, ◌⊎◌, ◌<◌, ◌≤◌, ◌+◌, ◌-◌, ℕ, suc, IsTrue, Bool, true, false, eqb, cond, List, [], ◌∷◌, ◌++◌, map, length, take, drop, get_or, reverse, Option, Some, None, Result, Ok, Err, IfOk, OnOk, refl, sym, ap, ◌∙◌, subst, append_assoc, append-nil, arith, max, min, add-one, inl, inr}
 use Rattle.std.proofs.lemmas.Bool.{false≢true, eq-eqb}
 use Rattle.std.proofs.lemmas.Bool.Decides.{eqb_tells}
 use Rattle.std.proofs.lemmas.List.{map-append, same_from_push, take_more, length-append, reverse-append}
@@ -8,7 +8,7 @@ use Rattle.hr_base.specs.declared.bind.Entity.{Entity}
 use Rattle.hr_type.specs.declared.mono.Mono.{Mono}
 use Rattle.hr_type.specs.declared.mono.Mono.TheVariants.{Var, Con, Fun}
 use Rattle.hr_type.specs.declared.measure.Inner.{Inner}
-use Rattle.hr_type.specs.Heads.{Head, variable_head, head, arrow_head, head_of, parts}
+use Rattle.hr_type.specs.Heads.{Head, variable_head, head, arrow_head, head_of, last_function, parts, placed}
 use Rattle.hr_type.specs.Inside.{deepest_of, spread}
 use Rattle.hr_type.specs.Sizes.{size, depth, total, greatest, reach}
 use Rattle.hr_type.proofs.Freeing.{total-append}
@@ -17,6 +17,10 @@ use Rattle.hr_type.proofs.Layers.{by_kind, head_var, head_con, head_fun, parts_v
 pub on_ok : {X E : Type 0} (r : Result X E) (P Q : Type 0) → (P → Q) → OnOk r P → OnOk r Q
 on_ok (Ok x) P Q f h = f h
 on_ok (Err e) P Q f h = tt
+
+pub if_ok : {X E : Type 0} (r : Result X E) (P Q : X → Type 0) → ((x : X) → P x → Q x) → IfOk r P → IfOk r Q
+if_ok (Ok x) P Q f h = f x h
+if_ok (Err e) P Q f h = tt
 
 -- a type that is known by its parts
 module _ (t : Mono) where
@@ -80,7 +84,7 @@ pub constructors_differ : (l r : Mono) (e f : Entity) (ts us : List Mono) → l 
 constructors_differ l r e f ts us h k differ j = let w : head e (length ts) ≡ head f (length us) = sym (is_con l e ts h) ∙ j ∙ is_con r f us k in differ (cc)
 
 pub constructors_fail : (l r : Mono) (e f : Entity) (ts us : List Mono) (b : Bool) → l ≡ Con e ts → r ≡ Con f us → b ≡ false → (IsTrue b ↔ (e ≡ f)) → IsTrue b ↔ (head_of l ≡ head_of r)
-constructors_fail l r e f ts us b h k no tells = (λ t. absurd (false≢true (sym no ∙ t)), λ j. absurd (constructors_differ l r e f ts us h k (λ same. false≢true (sym no ∙ tells.1 same)) j))
+constructors_fail l r e f ts us b h k fails tells = (λ t. absurd (false≢true (sym fails ∙ t)), λ j. absurd (constructors_differ l r e f ts us h k (λ same. false≢true (sym fails ∙ tells.1 same)) j))
 
 pub functions_tell : (l r : Mono) (a b : Mono) (t : Bool) → l ≡ Fun a b → (IsTrue t ↔ (head_of r ≡ arrow_head)) → IsTrue t ↔ (head_of l ≡ head_of r)
 functions_tell l r a b t h tells = (λ k. is_fun l a b h ∙ sym (tells.0 k), λ j. tells.1 (sym j ∙ is_fun l a b h))
@@ -96,22 +100,23 @@ emptied f xs ys h k = ap (map f) (h ∙ append-nil ys ∙ k)
 pub turned_popped : {X Y : Type 0} (f : X → Y) (xs ys : List X) (x : X) → xs ≡ ys ++ x ∷ [] → reverse (map f xs) ≡ f x ∷ reverse (map f ys)
 turned_popped f xs ys x h = ap reverse (popped f xs ys x h) ∙ reverse-append (map f ys) (f x ∷ [])
 
+-- two lists cut where their backs are equally long
+lengths : (us vs ws zs : List Mono) → us ++ vs ≡ ws ++ zs → length vs ≡ length zs → length us ≡ length ws
+lengths us vs ws zs e k = omega (arith, ap length e, length-append us vs, length-append ws zs)
+
+pub cut : (us vs ws zs : List Mono) → us ++ vs ≡ ws ++ zs → length vs ≡ length zs → (us ≡ ws) × (vs ≡ zs)
+cut us vs ws zs e k =
+    let n : length us ≡ length ws = lengths us vs ws zs e k in (
+      sym (take-append_seam us vs) ∙ ap (λ m. take m (us ++ vs)) n ∙ ap (take (length ws)) e ∙ take-append_seam ws zs,
+      sym (drop-append_seam us vs) ∙ ap (λ m. drop m (us ++ vs)) n ∙ ap (drop (length ws)) e ∙ drop-append_seam ws zs,
+    )
+
 -- Two stacks whose last types have one head are one where they are with the parts of these in their places.
 module _ (xs ys ls rs ns ms : List Mono) (a b : Mono) (P : Type 0) (left : xs ≡ ls ++ a ∷ []) (right : ys ≡ rs ++ b ∷ []) (tells : (xs ≡ ys) ↔ P) where
   pub heads_agree : P → head_of a ≡ head_of b
   heads_agree p = ap head_of (same_from_push ls rs a b (sym left ∙ tells.1 p ∙ right)).1
 
   module _ (lefts : ns ≡ ls ++ parts a) (rights : ms ≡ rs ++ parts b) (same : head_of a ≡ head_of b) where
-    lengths : (us vs ws zs : List Mono) → us ++ vs ≡ ws ++ zs → length vs ≡ length zs → length us ≡ length ws
-    lengths us vs ws zs e k = omega (arith, ap length e, length-append us vs, length-append ws zs)
-
-    cut : (us vs ws zs : List Mono) → us ++ vs ≡ ws ++ zs → length vs ≡ length zs → (us ≡ ws) × (vs ≡ zs)
-    cut us vs ws zs e k =
-        let n : length us ≡ length ws = lengths us vs ws zs e k in (
-          sym (take-append_seam us vs) ∙ ap (λ m. take m (us ++ vs)) n ∙ ap (take (length ws)) e ∙ take-append_seam ws zs,
-          sym (drop-append_seam us vs) ∙ ap (λ m. drop m (us ++ vs)) n ∙ ap (drop (length ws)) e ∙ drop-append_seam ws zs,
-        )
-
     pub layers_tell : (ns ≡ ms) ↔ P
     layers_tell = (
       λ e. let c = cut ls (parts a) rs (parts b) (sym lefts ∙ e ∙ rights) (same_width a b same) in
@@ -167,6 +172,9 @@ reach_greatest : (above : ℕ) (ts : List Mono) → max above (reach above ts) �
 reach_greatest above [] = omega arith
 reach_greatest above (t ∷ ts) = omega (arith, reach_greatest above ts)
 
+pub counted_more : (end count seen a b whole : ℕ) → seen ≡ min (count + 1) end → b ≡ suc a → min (count + b) end ≡ whole → min (seen + a) end ≡ whole
+counted_more end count seen a b whole s n e = omega arith
+
 -- one layer measured
 module _ (end deepest above here seen : ℕ) (xs ys zs : List Inner) (i : Inner) (whole : ℕ) where
   pub deeper : xs ≡ ys ++ i ∷ [] → here ≡ min (i.above + 1) end → seen ≡ max deepest here → deepest_of zs ≡ max (deepest_of ys) (reach here (parts i.ty.now))
@@ -181,3 +189,26 @@ module _ (end deepest above here seen : ℕ) (xs ys zs : List Inner) (i : Inner)
   narrower is w =
       let a : spread xs ≡ spread ys + size i.ty.now = ap spread is ∙ spread-push ys i in
       omega (arith, size_parts i.ty.now)
+
+-- a type put on the stack from which its parts were taken
+module _ (t : Mono) (old new own : List Mono) (n : ℕ) (taken : own ≡ drop (length old - n) old) (left : new ≡ take (length old - n) old) where
+  pub made_con : (e f : Entity) (ts us : List Mono) → t ≡ Con e ts → f ≡ e → us ≡ own → n ≡ length ts → new ++ Con f us ∷ [] ≡ placed (head_of t) old
+  made_con e f ts us h same k count =
+      (λ i. left i ++ Con (same i) ((k ∙ taken) i) ∷ []) ∙ ap (λ m. take (length old - m) old ++ Con e (drop (length old - m) old) ∷ []) count ∙ sym (ap (λ x. placed x old) (is_con t e ts h))
+
+  pub made_fun : (a b u : Mono) → t ≡ Fun a b → n ≡ 2 → u ≡ last_function (reverse own) → new ++ u ∷ [] ≡ placed (head_of t) old
+  made_fun a b u h two k =
+      (λ i. left i ++ (k ∙ ap (λ xs. last_function (reverse xs)) taken) i ∷ []) ∙ ap (λ m. take (length old - m) old ++ last_function (reverse (drop (length old - m) old)) ∷ []) two
+      ∙ sym (ap (λ x. placed x old) (is_fun t a b h))
+
+pub sole : (xs ys : List Mono) (t u : Mono) → xs ≡ t ∷ [] → xs ≡ ys ++ u ∷ [] → u ≡ t
+sole xs ys t u h k = sym (same_from_push [] ys t u (sym h ∙ k)).1
+
+pub sole_some : (xs : List Mono) (t : Mono) → xs ≡ t ∷ [] → xs ≡ [] → ⊥
+sole_some xs t h k = let j : ◌≡◌ {A = List Mono} (t ∷ []) [] = sym h ∙ k in absurd (cc)
+
+pub fewer : (before rest : List Mono) (t : Mono) → before ≡ rest ++ t ∷ [] → total (map size rest) < total (map size before)
+fewer before rest t was =
+    let b : total (map size before) ≡ total (map size rest) + (size t + 0) =
+    ap (λ ts. total (map size ts)) was ∙ ap total (map-append size rest (t ∷ [])) ∙ total-append (map size rest) (size t ∷ []) in
+    omega (arith, size_parts t)

@@ -1,4 +1,4 @@
-ghost use Rattle.std.specs.Prelude.{◌≡◌, ◌-◌, [], IfOk, OnOk, drop, length, map, reverse, take};
+ghost use Rattle.std.specs.Prelude.{◌≡◌, ◌++◌, ◌∷◌, ◌-◌, [], IfOk, OnOk, drop, length, map, reverse, take};
 ghost use Rattle.hr_type.specs.Heads.{built, head_of, last_function, placed, posts};
 
 use crate::Mono;
@@ -12,7 +12,8 @@ impl Mono {
     pub fn copied(&self, alloc: Global) -> Result<Mono, AllocError>
         ensures { IfOk result (λ copy. copy ≡ self.now) }
     {
-        let mut types = rebuilt(alloc, inside(alloc, self)?)?;
+        let nodes = inside(alloc, self)?;
+        let mut types = rebuilt(alloc, nodes)?;
         match types.pop() {
             Some(ty) => Ok(ty),
             None => unreachable!(),
@@ -50,16 +51,27 @@ pub fn rebuilt(alloc: Global, nodes: Vec<&Mono>) -> Result<Vec<Mono>, AllocError
 fn place(alloc: Global, node: &Mono, types: &mut Vec<Mono>) -> Result<(), AllocError>
     ensures { OnOk result (types.new.items ≡ placed (head_of node.now) types.old.items) }
 {
-    let ty = match node {
-        Mono::Var(variable) => Mono::Var(*variable),
-        Mono::Con(entity, arguments) => {
-            let own = last_types(types, arguments.len())?;
-            Mono::Con(entity_copied(entity)?, Items::from_vec(own))
-        }
-        Mono::Fun(_, _) => function_of(alloc, last_types(types, 2)?)?,
-    };
+    let ty = made(alloc, node, types)?;
     types.push(ty)?;
     Ok(())
+}
+
+/// The type with the head of `node` whose parts stand last, and are taken from there.
+fn made(alloc: Global, node: &Mono, types: &mut Vec<Mono>) -> Result<Mono, AllocError>
+    ensures { IfOk result (λ ty. types.new.items ++ ty ∷ [] ≡ placed (head_of node.now) types.old.items) }
+{
+    match node {
+        Mono::Var(variable) => Ok(Mono::Var(*variable)),
+        Mono::Con(entity, arguments) => {
+            let own = last_types(types, arguments.len())?;
+            let copy = entity_copied(entity)?;
+            Ok(Mono::Con(copy, Items::from_vec(own)))
+        }
+        Mono::Fun(_, _) => {
+            let own = last_types(types, 2)?;
+            function_of(alloc, own)
+        }
+    }
 }
 
 /// Takes so many types from the end, or all where there are fewer.

@@ -28,13 +28,13 @@ pub fn instance(alloc: Global, general: &Scheme, special: &Mono) -> Result<bool,
             if !match_variable(alloc, general.bound, &mut chosen, *variable, ty)? {
                 return Ok(false);
             }
-        } else {
-            if !have_same_head(pattern, ty) {
-                return Ok(false);
-            }
-            push_parts(pattern, &mut generals)?;
-            push_parts(ty, &mut specials)?;
+            continue;
         }
+        if !have_same_head(pattern, ty) {
+            return Ok(false);
+        }
+        push_parts(pattern, &mut generals)?;
+        push_parts(ty, &mut specials)?;
     }
     Ok(specials.is_empty())
 }

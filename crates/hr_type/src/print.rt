@@ -15,7 +15,8 @@ pub fn print_in(alloc: Global, ty: &Mono, scope: &TypeScope) -> Result<Option<Ve
     ensures { IfOk result (λ printed. MatchOption printed
         (spellable scope.now ty.now ≡ false) (λ text. Spells scope.now ty.now text.items)) }
 {
-    if !is_spellable(alloc, scope, ty)? {
+    let named = is_spellable(alloc, scope, ty)?;
+    if !named {
         return Ok(None);
     }
     let mut text = Vec::new(alloc);

@@ -1,6 +1,6 @@
 ghost use Rattle.std.specs.Prelude.{◌≡◌, ◌++◌, ◌+◌, ◌*◌, ◌<◌, ◌≤◌, MatchOption, OnOk, IsTrue, false, true, map, slice_get};
 ghost use Rattle.hr_type.specs.Spelling as spec;
-ghost use Rattle.hr_type.specs.Jobs.{load, pending};
+ghost use Rattle.hr_type.specs.Jobs.{job_bytes, job_load, load, pending};
 ghost use Rattle.hr_type.specs.Sizes.{size, total};
 
 use crate::Mono;
@@ -84,15 +84,27 @@ pub fn write_type(
     let mut jobs = Vec::new(alloc);
     push_type(scope, b"", 0, ty, &mut jobs)?;
     while let Some(job) = jobs.pop() {
-        match job {
-            Job::Text(text) => append(out, text)?,
-            Job::Spelled { before, least, ty } => {
-                append(out, before)?;
-                write_within(scope, least, ty, out, &mut jobs)?;
-            }
-        }
+        do_job(scope, job, out, &mut jobs)?;
     }
     Ok(())
+}
+
+fn do_job<'a>(
+    scope: &TypeScope,
+    job: Job<'a>,
+    out: &mut Vec<u8>,
+    jobs: &mut Vec<Job<'a>>,
+) -> Result<(), AllocError>
+    ensures text { OnOk result (out.new.items ++ pending scope.now jobs.new.items ≡ out.old.items ++ (job_bytes scope.now job.entry ++ pending scope.now jobs.old.items)) }
+    ensures work { OnOk result (load jobs.new.items < load jobs.old.items + job_load job.entry) }
+{
+    match job {
+        Job::Text(text) => append(out, text),
+        Job::Spelled { before, least, ty } => {
+            append(out, before)?;
+            write_within(scope, least, ty, out, jobs)
+        }
+    }
 }
 
 fn push_type<'a>(
