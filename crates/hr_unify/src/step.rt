@@ -1,34 +1,31 @@
-ghost use Rattle.std.specs.Prelude.{◌≡◌, ◌<◌, ◌++◌, ◌∷◌, [], IfOk, IsTrue, None, MatchResult, OnOk};
-ghost use Rattle.hr_type.specs.declared.mono.Mono.{Mono};
+ghost use Rattle.std.specs.Prelude.{◌≡◌, ◌<◌, ◌++◌, ◌∷◌, [], IfOk, None, OnOk};
 ghost use Rattle.hr_type.specs.declared.mono.Mono.TheVariants.{Var};
-ghost use Rattle.hr_type.specs.Types.{first_for};
-ghost use Rattle.hr_unify.specs.declared.work.Work.TheVariants.{Equation};
-ghost use Rattle.hr_unify.specs.Unifiers.{Equations, IsGood, IsOneOf};
+ghost use Rattle.hr_unify.specs.Tasks.{Equation, marks, pairs_of, plain, task_of, tasks};
+ghost use Rattle.hr_unify.specs.Unifiers.{Equations, IsGood};
 ghost use Rattle.hr_unify.specs.Weights.{work_load};
-ghost use Rattle.hr_unify.specs.Working.{Goes, Keeps, Opens, Splits};
+ghost use Rattle.hr_unify.specs.Working.{Goes, IsMismatch, Keeps, Opens, Splits};
 
 use crate::UnifyError;
+use crate::known::{Known, Marks, is_marked, known_type, mark};
 use crate::split::{split_arguments, split_function};
-use crate::work::Work;
-use hr_base::Entity;
-use hr_type::{Mono, is_same_entity, is_variable, look_up};
-use sqlite_items::Items;
+use crate::work::{Work, push_equation};
+use hr_type::{Mono, have_same_head, is_variable};
 use std::alloc::{AllocError, Global};
 
 /// Does the work until a variable is to be bound to a type, or none is left.
-pub fn next_binding(
+pub fn next_binding<'a>(
     alloc: Global,
-    pairs: &[(u32, Mono)],
-    work: &mut Vec<Work>,
-    settled: &mut Vec<(u32, Mono)>,
-) -> Result<Option<(u32, Mono)>, UnifyError>
-    requires { IsGood pairs.now }
-    ensures goes { (es : Equations) → Keeps es pairs.now work.old.items settled.old.items
-        → Goes es pairs.now work.new.items settled.new.items result }
-    ensures done { IfOk result (λ b. b ≡ None → work.new.items ≡ []) }
+    known: &Known<'a>,
+    work: &mut Vec<Work<'a>>,
+    settled: &mut Marks,
+) -> Result<Option<(u32, &'a Mono)>, UnifyError>
+    requires { IsGood (pairs_of known.now) }
+    ensures goes { (es : Equations) → Keeps es (pairs_of known.now) (tasks work.old.items) (marks settled.old.entries)
+        → Goes es (pairs_of known.now) (tasks work.new.items) (marks settled.new.entries) (plain result) }
+    ensures done { IfOk result (λ b. b ≡ None → tasks work.new.items ≡ []) }
 {
     while let Some(item) = work.pop() {
-        match step(alloc, pairs, item, work, settled) {
+        match step(alloc, known, item, work, settled) {
             Ok(None) => {}
             Ok(Some(binding)) => return Ok(Some(binding)),
             Err(error) => return Err(error),
@@ -37,172 +34,157 @@ pub fn next_binding(
     Ok(None)
 }
 
-fn step(
+fn step<'a>(
     alloc: Global,
-    pairs: &[(u32, Mono)],
-    item: Work,
-    work: &mut Vec<Work>,
-    settled: &mut Vec<(u32, Mono)>,
-) -> Result<Option<(u32, Mono)>, UnifyError>
-    requires { IsGood pairs.now }
-    ensures goes { (es : Equations) → Keeps es pairs.now (work.old.items ++ item ∷ []) settled.old.items
-        → Goes es pairs.now work.new.items settled.new.items result }
+    known: &Known<'a>,
+    item: Work<'a>,
+    work: &mut Vec<Work<'a>>,
+    settled: &mut Marks,
+) -> Result<Option<(u32, &'a Mono)>, UnifyError>
+    requires { IsGood (pairs_of known.now) }
+    ensures goes { (es : Equations) → Keeps es (pairs_of known.now) (tasks work.old.items ++ task_of item.entry ∷ []) (marks settled.old.entries)
+        → Goes es (pairs_of known.now) (tasks work.new.items) (marks settled.new.entries) (plain result) }
     ensures lighter { IfOk result (λ b. b ≡ None
-        → work_load pairs.now work.new.items < work_load pairs.now (work.old.items ++ item ∷ [])) }
+        → work_load (pairs_of known.now) (tasks work.new.items) < work_load (pairs_of known.now) (tasks work.old.items ++ task_of item.entry ∷ [])) }
 {
     match item {
-        Work::Settled(variable, ty) => {
-            settle(variable, ty, settled).map_err(UnifyError::Memory)?;
+        Work::Settled(variable, other) => {
+            mark(settled, variable, other).map_err(UnifyError::Memory)?;
             Ok(None)
         }
-        Work::Equation(left, right) => equate(alloc, pairs, left, right, work, settled.as_slice()),
+        Work::Equation(left, right) => equate(alloc, known, left, right, work, settled),
     }
-}
-
-fn settle(variable: u32, ty: Mono, settled: &mut Vec<(u32, Mono)>) -> Result<(), AllocError>
-    ensures { OnOk result (settled.new.items ≡ settled.old.items ++ (variable, ty) ∷ []) }
-{
-    settled.push((variable, ty))?;
-    Ok(())
 }
 
 /// One equation: the equations of its parts, or a variable against a type.
-fn equate(
+fn equate<'a>(
     alloc: Global,
-    pairs: &[(u32, Mono)],
-    left: Mono,
-    right: Mono,
-    work: &mut Vec<Work>,
-    settled: &[(u32, Mono)],
-) -> Result<Option<(u32, Mono)>, UnifyError>
-    requires { IsGood pairs.now }
-    ensures goes { (es : Equations) → Keeps es pairs.now (work.old.items ++ Equation left right ∷ []) settled.now
-        → Goes es pairs.now work.new.items settled.now result }
+    known: &Known<'a>,
+    left: &'a Mono,
+    right: &'a Mono,
+    work: &mut Vec<Work<'a>>,
+    settled: &Marks,
+) -> Result<Option<(u32, &'a Mono)>, UnifyError>
+    requires { IsGood (pairs_of known.now) }
+    ensures goes { (es : Equations) → Keeps es (pairs_of known.now) (tasks work.old.items ++ Equation left.now right.now ∷ []) (marks settled.now.entries)
+        → Goes es (pairs_of known.now) (tasks work.new.items) (marks settled.now.entries) (plain result) }
     ensures lighter { IfOk result (λ b. b ≡ None
-        → work_load pairs.now work.new.items < work_load pairs.now (work.old.items ++ Equation left right ∷ [])) }
+        → work_load (pairs_of known.now) (tasks work.new.items) < work_load (pairs_of known.now) (tasks work.old.items ++ Equation left.now right.now ∷ [])) }
 {
-    match left {
-        Mono::Var(variable) => meet(alloc, pairs, variable, right, work, settled),
-        Mono::Con(entity, arguments) => match right {
-            Mono::Var(variable) => {
-                meet(
-                    alloc,
-                    pairs,
-                    variable,
-                    Mono::Con(entity, arguments),
-                    work,
-                    settled,
-                )
-            }
-            Mono::Con(other, others) => split_constructor(entity, arguments, other, others, work),
-            Mono::Fun(from, to) => Err(UnifyError::Mismatch {
-                left: Mono::Con(entity, arguments),
-                right: Mono::Fun(from, to),
-            }),
-        },
-        Mono::Fun(from, to) => match right {
-            Mono::Var(variable) => {
-                meet(alloc, pairs, variable, Mono::Fun(from, to), work, settled)
-            }
-            Mono::Con(entity, arguments) => Err(UnifyError::Mismatch {
-                left: Mono::Fun(from, to),
-                right: Mono::Con(entity, arguments),
-            }),
-            Mono::Fun(other_from, other_to) => {
-                split_function(from, to, other_from, other_to, work).map_err(UnifyError::Memory)?;
-                Ok(None)
-            }
-        },
+    if let Mono::Var(variable) = left {
+        return meet(known, *variable, left, right, work, settled);
     }
+    if let Mono::Var(variable) = right {
+        return meet(known, *variable, right, left, work, settled);
+    }
+    split(alloc, left, right, work)
 }
 
-fn split_constructor(
-    entity: Entity,
-    arguments: Items<Mono>,
-    other: Entity,
-    others: Items<Mono>,
-    work: &mut Vec<Work>,
-) -> Result<Option<(u32, Mono)>, UnifyError>
-    ensures { Splits entity arguments other others work.old.items work.new.items result }
+/// Two types that are no variables: the equations of their parts, where they have one head.
+fn split<'a>(
+    alloc: Global,
+    left: &'a Mono,
+    right: &'a Mono,
+    work: &mut Vec<Work<'a>>,
+) -> Result<Option<(u32, &'a Mono)>, UnifyError>
 {
-    if is_same_entity(&entity, &other) && arguments.len() == others.len() {
-        split_arguments(work, arguments, others).map_err(UnifyError::Memory)?;
-        return Ok(None);
+    if !have_same_head(left, right) {
+        return Err(mismatch(alloc, left, right));
     }
-    Err(UnifyError::Mismatch {
-        left: Mono::Con(entity, arguments),
-        right: Mono::Con(other, others),
-    })
+    push_parts_of(left, right, work).map_err(UnifyError::Memory)?;
+    Ok(None)
+}
+
+fn push_parts_of<'a>(left: &'a Mono, right: &'a Mono, work: &mut Vec<Work<'a>>) -> Result<(), AllocError>
+{
+    match left {
+        Mono::Var(_) => Ok(()),
+        Mono::Con(_, lefts) => match right {
+            Mono::Var(_) => Ok(()),
+            Mono::Con(_, rights) => split_arguments(work, lefts.as_slice(), rights.as_slice()),
+            Mono::Fun(_, _) => Ok(()),
+        },
+        Mono::Fun(from, to) => match right {
+            Mono::Var(_) => Ok(()),
+            Mono::Con(_, _) => Ok(()),
+            Mono::Fun(other_from, other_to) => {
+                split_function(from.get(), to.get(), other_from.get(), other_to.get(), work)
+            }
+        },
+    }
 }
 
 /// A variable against a type.
-fn meet(
-    alloc: Global,
-    pairs: &[(u32, Mono)],
+fn meet<'a>(
+    known: &Known<'a>,
     variable: u32,
-    other: Mono,
-    work: &mut Vec<Work>,
-    settled: &[(u32, Mono)],
-) -> Result<Option<(u32, Mono)>, UnifyError>
-    requires { IsGood pairs.now }
-    ensures goes { (es : Equations) → Keeps es pairs.now (work.old.items ++ Equation (Var variable) other ∷ []) settled.now
-        → Goes es pairs.now work.new.items settled.now result }
-    ensures lighter { IfOk result (λ b. b ≡ None
-        → work_load pairs.now work.new.items < work_load pairs.now (work.old.items ++ Equation (Var variable) other ∷ [])) }
+    this: &'a Mono,
+    other: &'a Mono,
+    work: &mut Vec<Work<'a>>,
+    settled: &Marks,
+) -> Result<Option<(u32, &'a Mono)>, UnifyError>
 {
-    if is_variable(&other, variable) {
+    if is_variable(other, variable) {
         return Ok(None);
     }
-    if let Some(ty) = look_up(pairs, variable) {
-        open(alloc, variable, ty, other, work, settled).map_err(UnifyError::Memory)?;
+    if let Some(ty) = known_type(known, variable) {
+        open(variable, ty, other, work, settled).map_err(UnifyError::Memory)?;
         return Ok(None);
     }
-    match other {
-        Mono::Var(second) => match look_up(pairs, second) {
-            Some(ty) => {
-                open(alloc, second, ty, Mono::Var(variable), work, settled).map_err(
-                    UnifyError::Memory,
-                )?;
-                Ok(None)
-            }
-            None => Ok(Some((variable, Mono::Var(second)))),
-        },
-        Mono::Con(entity, arguments) => Ok(Some((variable, Mono::Con(entity, arguments)))),
-        Mono::Fun(from, to) => Ok(Some((variable, Mono::Fun(from, to)))),
+    let Mono::Var(second) = other else {
+        return Ok(Some((variable, other)));
+    };
+    if let Some(ty) = known_type(known, *second) {
+        open(*second, ty, this, work, settled).map_err(UnifyError::Memory)?;
+        return Ok(None);
     }
+    Ok(Some(newer_to_older(variable, this, *second, other)))
 }
 
-/// Puts the type of a variable in its place, unless that was done before: what was settled once
-/// is not looked into again, so that types that share their parts take no more work than there
-/// are parts.
-fn open(
-    alloc: Global,
+/// Of two variables without a type the one with the greater number is bound to the other one.
+fn newer_to_older<'a>(
     variable: u32,
-    ty: &Mono,
-    other: Mono,
-    work: &mut Vec<Work>,
-    settled: &[(u32, Mono)],
-) -> Result<(), AllocError>
-    ensures { OnOk result (Opens settled.now variable ty.now other work.old.items work.new.items) }
+    this: &'a Mono,
+    second: u32,
+    other: &'a Mono,
+) -> (u32, &'a Mono)
 {
-    if is_settled(settled, variable, &other) {
+    if variable < second {
+        return (second, this);
+    }
+    (variable, other)
+}
+
+/// Puts the type of a variable in its place. Against another variable this is settled then, and is
+/// not looked into again, so that types that share their parts take no more work than there are
+/// parts.
+fn open<'a>(
+    variable: u32,
+    ty: &'a Mono,
+    other: &'a Mono,
+    work: &mut Vec<Work<'a>>,
+    settled: &Marks,
+) -> Result<(), AllocError>
+    ensures { OnOk result (Opens (marks settled.now.entries) variable ty.now other.now (tasks work.old.items) (tasks work.new.items)) }
+{
+    let Mono::Var(second) = other else {
+        return push_equation(work, ty, other);
+    };
+    if is_marked(settled, variable, *second) {
         return Ok(());
     }
-    let copy = other.copied(alloc)?;
-    work.push(Work::Settled(variable, copy))?;
-    work.push(Work::Equation(ty.copied(alloc)?, other))?;
-    Ok(())
+    work.push(Work::Settled(variable, *second))?;
+    push_equation(work, ty, other)
 }
 
-fn is_settled(settled: &[(u32, Mono)], variable: u32, ty: &Mono) -> bool
-    ensures { IsTrue result → IsOneOf (variable, ty.now) settled.now }
+fn mismatch(alloc: Global, left: &Mono, right: &Mono) -> UnifyError
+    ensures { IsMismatch left.now right.now result }
 {
-    for (other, its) in settled {
-        if *other == variable {
-            if its.is_same(ty) {
-                return true;
-            }
-        }
+    match left.copied(alloc) {
+        Err(error) => UnifyError::Memory(error),
+        Ok(left) => match right.copied(alloc) {
+            Err(error) => UnifyError::Memory(error),
+            Ok(right) => UnifyError::Mismatch { left, right },
+        },
     }
-    false
 }
