@@ -136,7 +136,7 @@ posts_parts =
     flat : (xs ys : List Head) → xs ++ (ys ++ arrow_head ∷ []) ≡ (xs ++ (ys ++ [])) ++ arrow_head ∷ []
     flat xs ys = simp (append_assoc, append-nil)
 
-joined-append : (xs ys : List (List Head)) → joined (xs ++ ys) ≡ joined xs ++ joined ys
+pub joined-append : (xs ys : List (List Head)) → joined (xs ++ ys) ≡ joined xs ++ joined ys
 joined-append [] ys = refl
 joined-append (x ∷ xs) ys = ap (λ hs. x ++ hs) (joined-append xs ys) ∙ sym (append_assoc x (joined xs) (joined ys))
 

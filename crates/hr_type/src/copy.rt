@@ -95,3 +95,14 @@ fn function_of(alloc: Global, types: Vec<Mono>) -> Result<Mono, AllocError>
     };
     Ok(Mono::Fun(Boxed::new(alloc, from)?, Boxed::new(alloc, to)?))
 }
+
+/// Types equal to these, in order.
+pub fn copies_of(alloc: Global, types: &[Mono]) -> Result<Items<Mono>, AllocError>
+    ensures { IfOk result (λ copies. copies ≡ types.now) }
+{
+    let mut copies = Items::new(alloc);
+    for ty in types {
+        copies.push(ty.copied(alloc)?)?;
+    }
+    Ok(copies)
+}

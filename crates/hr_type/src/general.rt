@@ -1,4 +1,4 @@
-ghost use Rattle.std.specs.Prelude.{◌≡◌, ◌↔◌, ◌++◌, ◌∷◌, [], IfOk, IsTrue, None, OnOk};
+ghost use Rattle.std.specs.Prelude.{◌≡◌, ◌↔◌, ◌++◌, ◌∷◌, [], IfOk, IsTrue, None, OnErr, OnOk};
 ghost use Rattle.std.specs.Option.{option_copied};
 ghost use Rattle.hr_type.specs.Matching.{Settles};
 ghost use Rattle.hr_type.specs.Types.{IsInstance, bounded, first_for};
@@ -69,7 +69,8 @@ pub fn look_up(bindings: &Bindings, variable: u32) -> Option<&Mono>
 /// Gives a variable that has none its type.
 pub fn add(bindings: &mut Bindings, variable: u32, ty: Mono) -> Result<(), AllocError>
     requires { first_for variable bindings.old.entries ≡ None }
-    ensures { OnOk result (bindings.new.entries ≡ bindings.old.entries ++ (variable, ty) ∷ []) }
+    ensures added { OnOk result (bindings.new.entries ≡ bindings.old.entries ++ (variable, ty) ∷ []) }
+    ensures unchanged { OnErr result (bindings.new.entries ≡ bindings.old.entries) }
 {
     bindings.insert(variable, ty)?;
     Ok(())

@@ -15,7 +15,7 @@ mod tests;
 mod write;
 
 pub use arity::has_arities;
-pub use copy::rebuilt;
+pub use copy::{copies_of, rebuilt};
 pub use general::{Bindings, add, instance, look_up};
 pub use measure::{depth_of_type, size_of_type};
 pub use mono::{Mono, Scheme, entity_copied, is_same_entity};

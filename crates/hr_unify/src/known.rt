@@ -30,13 +30,10 @@ pub fn known_type<'a>(known: &Known<'a>, variable: u32) -> Option<&'a Mono>
 }
 
 /// Gives a variable that has none its type.
-pub fn make_known<'a>(
-    known: &mut Known<'a>,
-    variable: u32,
-    ty: &'a Mono,
-) -> Result<(), AllocError>
+pub fn make_known<'a>(known: &mut Known<'a>, variable: u32, ty: &'a Mono) -> Result<(), AllocError>
     requires { first_for variable (pairs_of known.old) ≡ None }
-    ensures { OnOk result (pairs_of known.new ≡ pairs_of known.old ++ (variable, ty.now) ∷ []) }
+    ensures bound { OnOk result (pairs_of known.new ≡ pairs_of known.old ++ (variable, ty.now) ∷ []) }
+    ensures given { known.new.given.now.entries ≡ known.old.given.now.entries }
 {
     known.fresh.insert(variable, ty)?;
     Ok(())

@@ -3,21 +3,22 @@ ghost use Rattle.hr_unify.specs.Tasks.{Equation, tasks};
 ghost use Rattle.hr_unify.specs.Working.{paired};
 
 use crate::work::{Work, push_equation};
+use hr_items::Boxed;
 use hr_type::Mono;
 use std::alloc::AllocError;
 
 /// The equations of the parts of two function types, that of the arguments on top.
 pub fn split_function<'a>(
-    from: &'a Mono,
-    to: &'a Mono,
-    other_from: &'a Mono,
-    other_to: &'a Mono,
+    from: &'a Boxed<Mono>,
+    to: &'a Boxed<Mono>,
+    other_from: &'a Boxed<Mono>,
+    other_to: &'a Boxed<Mono>,
     work: &mut Vec<Work<'a>>,
 ) -> Result<(), AllocError>
     ensures { OnOk result (tasks work.new.items ≡ tasks work.old.items ++ Equation to.now other_to.now ∷ Equation from.now other_from.now ∷ []) }
 {
-    push_equation(work, to, other_to)?;
-    push_equation(work, from, other_from)
+    push_equation(work, to.get(), other_to.get())?;
+    push_equation(work, from.get(), other_from.get())
 }
 
 /// The equations of the arguments of one constructor, the first on top.

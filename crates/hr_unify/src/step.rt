@@ -1,5 +1,5 @@
 ghost use Rattle.std.specs.Prelude.{◌≡◌, ◌<◌, ◌++◌, ◌∷◌, [], IfOk, None, OnOk};
-ghost use Rattle.hr_type.specs.declared.mono.Mono.TheVariants.{Var};
+ghost use Rattle.hr_type.specs.declared.mono.Mono.TheVariants.{Con, Var};
 ghost use Rattle.hr_unify.specs.Tasks.{Equation, marks, pairs_of, plain, task_of, tasks};
 ghost use Rattle.hr_unify.specs.Unifiers.{Equations, IsGood};
 ghost use Rattle.hr_unify.specs.Weights.{work_load};
@@ -9,7 +9,9 @@ use crate::UnifyError;
 use crate::known::{Known, Marks, is_marked, known_type, mark};
 use crate::split::{split_arguments, split_function};
 use crate::work::{Work, push_equation};
-use hr_type::{Mono, have_same_head, is_variable};
+use hr_base::Entity;
+use hr_items::Items;
+use hr_type::{Mono, is_same_entity, is_variable};
 use std::alloc::{AllocError, Global};
 
 /// Does the work until a variable is to be bound to a type, or none is left.
@@ -71,50 +73,50 @@ fn equate<'a>(
     ensures lighter { IfOk result (λ b. b ≡ None
         → work_load (pairs_of known.now) (tasks work.new.items) < work_load (pairs_of known.now) (tasks work.old.items ++ Equation left.now right.now ∷ [])) }
 {
-    if let Mono::Var(variable) = left {
-        return meet(known, *variable, left, right, work, settled);
-    }
-    if let Mono::Var(variable) = right {
-        return meet(known, *variable, right, left, work, settled);
-    }
-    split(alloc, left, right, work)
-}
-
-/// Two types that are no variables: the equations of their parts, where they have one head.
-fn split<'a>(
-    alloc: Global,
-    left: &'a Mono,
-    right: &'a Mono,
-    work: &mut Vec<Work<'a>>,
-) -> Result<Option<(u32, &'a Mono)>, UnifyError>
-{
-    if !have_same_head(left, right) {
-        return Err(mismatch(alloc, left, right));
-    }
-    push_parts_of(left, right, work).map_err(UnifyError::Memory)?;
-    Ok(None)
-}
-
-fn push_parts_of<'a>(left: &'a Mono, right: &'a Mono, work: &mut Vec<Work<'a>>) -> Result<(), AllocError>
-{
     match left {
-        Mono::Var(_) => Ok(()),
-        Mono::Con(_, lefts) => match right {
-            Mono::Var(_) => Ok(()),
-            Mono::Con(_, rights) => split_arguments(work, lefts.as_slice(), rights.as_slice()),
-            Mono::Fun(_, _) => Ok(()),
+        Mono::Var(variable) => meet(known, *variable, left, right, work, settled),
+        Mono::Con(entity, arguments) => match right {
+            Mono::Var(variable) => meet(known, *variable, right, left, work, settled),
+            Mono::Con(other, others) => {
+                split_constructor(alloc, left, right, entity, arguments, other, others, work)
+            }
+            Mono::Fun(_, _) => Err(mismatch(alloc, left, right)),
         },
         Mono::Fun(from, to) => match right {
-            Mono::Var(_) => Ok(()),
-            Mono::Con(_, _) => Ok(()),
+            Mono::Var(variable) => meet(known, *variable, right, left, work, settled),
+            Mono::Con(_, _) => Err(mismatch(alloc, left, right)),
             Mono::Fun(other_from, other_to) => {
-                split_function(from.get(), to.get(), other_from.get(), other_to.get(), work)
+                split_function(from, to, other_from, other_to, work).map_err(UnifyError::Memory)?;
+                Ok(None)
             }
         },
     }
 }
 
-/// A variable against a type.
+/// Two types of constructors.
+fn split_constructor<'a>(
+    alloc: Global,
+    left: &'a Mono,
+    right: &'a Mono,
+    entity: &Entity,
+    arguments: &'a Items<Mono>,
+    other: &Entity,
+    others: &'a Items<Mono>,
+    work: &mut Vec<Work<'a>>,
+) -> Result<Option<(u32, &'a Mono)>, UnifyError>
+    requires left_is { left.now ≡ Con entity.now arguments.now }
+    requires right_is { right.now ≡ Con other.now others.now }
+    ensures { Splits entity.now arguments.now other.now others.now (tasks work.old.items) (tasks work.new.items) (plain result) }
+{
+    if is_same_entity(entity, other) && arguments.len() == others.len() {
+        split_arguments(work, arguments.as_slice(), others.as_slice()).map_err(UnifyError::Memory)?;
+        return Ok(None);
+    }
+    Err(mismatch(alloc, left, right))
+}
+
+/// A variable against a type. Of two variables without a type the one with the greater number is
+/// bound to the other one.
 fn meet<'a>(
     known: &Known<'a>,
     variable: u32,
@@ -123,6 +125,12 @@ fn meet<'a>(
     work: &mut Vec<Work<'a>>,
     settled: &Marks,
 ) -> Result<Option<(u32, &'a Mono)>, UnifyError>
+    requires good { IsGood (pairs_of known.now) }
+    requires is { this.now ≡ Var variable }
+    ensures goes { (es : Equations) → Keeps es (pairs_of known.now) (tasks work.old.items ++ Equation (Var variable) other.now ∷ []) (marks settled.now.entries)
+        → Goes es (pairs_of known.now) (tasks work.new.items) (marks settled.now.entries) (plain result) }
+    ensures lighter { IfOk result (λ b. b ≡ None
+        → work_load (pairs_of known.now) (tasks work.new.items) < work_load (pairs_of known.now) (tasks work.old.items ++ Equation (Var variable) other.now ∷ [])) }
 {
     if is_variable(other, variable) {
         return Ok(None);
@@ -131,28 +139,20 @@ fn meet<'a>(
         open(variable, ty, other, work, settled).map_err(UnifyError::Memory)?;
         return Ok(None);
     }
-    let Mono::Var(second) = other else {
-        return Ok(Some((variable, other)));
-    };
-    if let Some(ty) = known_type(known, *second) {
-        open(*second, ty, this, work, settled).map_err(UnifyError::Memory)?;
-        return Ok(None);
+    match other {
+        Mono::Var(second) => {
+            if let Some(ty) = known_type(known, *second) {
+                open(*second, ty, this, work, settled).map_err(UnifyError::Memory)?;
+                return Ok(None);
+            }
+            if variable < *second {
+                return Ok(Some((*second, this)));
+            }
+            Ok(Some((variable, other)))
+        }
+        Mono::Con(_, _) => Ok(Some((variable, other))),
+        Mono::Fun(_, _) => Ok(Some((variable, other))),
     }
-    Ok(Some(newer_to_older(variable, this, *second, other)))
-}
-
-/// Of two variables without a type the one with the greater number is bound to the other one.
-fn newer_to_older<'a>(
-    variable: u32,
-    this: &'a Mono,
-    second: u32,
-    other: &'a Mono,
-) -> (u32, &'a Mono)
-{
-    if variable < second {
-        return (second, this);
-    }
-    (variable, other)
 }
 
 /// Puts the type of a variable in its place. Against another variable this is settled then, and is

@@ -17,7 +17,7 @@ pub returns : goal.returns
 returns c =
     let chosen = c.args.chosen.now.entries in
     let missing : first_for c.args.variable chosen ≡ None = sym c.in_default.ensures in
-    subst (λ items. Narrows chosen items (λ by. bounded c.args.bound by c.args.variable ≡ c.args.special.now)) (sym c.in_ok-add.ensures)
+    subst (λ items. Narrows chosen items (λ by. bounded c.args.bound by c.args.variable ≡ c.args.special.now)) (sym c.in_ok-add.ensures.added)
     (narrows_choice c.args.variable c.in_ok-copied.field-0 chosen _ missing
     (λ by p. sym (bounded_below by c.args.variable c.args.bound c.if-variable-bound.false) ∙ p ∙ sym c.in_ok-copied.ensures)
     (λ by e. bounded_below by c.args.variable c.args.bound c.if-variable-bound.false ∙ e ∙ c.in_ok-copied.ensures))
