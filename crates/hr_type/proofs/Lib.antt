@@ -1,4 +1,9 @@
 pub mod Choices
+pub mod Freeing
+pub mod Jobbing
+pub mod Layers
+pub mod Matched
+pub mod Reading
 pub mod ReadsBack
 pub mod Spellings
 pub mod Terms

@@ -8,6 +8,8 @@ use Rattle.hr_base.specs.declared.bind.Name.{Name}
 use Rattle.hr_base.specs.declared.bind.Space.{Space}
 use Rattle.hr_base.specs.declared.bind.Space.TheVariants.{Value, Constructor, TypeName}
 use Rattle.hr_type.specs.declared.mono.Mono.{Mono}
+use Rattle.hr_type.specs.declared.mono.Mono.TheOpen.{Mono-F}
+use Rattle.hr_type.specs.declared.mono.Mono.TheViews.{out-Mono}
 use Rattle.hr_type.specs.declared.spell.TypeScope.{TypeScope}
 use Rattle.hr_type.specs.declared.spell.Brackets.{Brackets}
 use Rattle.hr_type.specs.declared.spell.Brackets.TheVariants.{Square, Round}
@@ -53,6 +55,15 @@ fits_arity e n None = not (is_arrow e)
 abbrev pub has_arities : Mono → Bool
 has_arities = value Bool (λ e inner. fits_arity e (length inner) (brackets_of e) && list_all (λ b. b) inner) ◌&&◌ (λ _. true)
 
+-- the same of the outermost layer alone
+abbrev pub layer_arity : Mono-F Mono → Bool
+layer_arity (Mono-F.Var n) = true
+layer_arity (Mono-F.Con e ts) = fits_arity e (length ts) (brackets_of e)
+layer_arity (Mono-F.Fun a b) = true
+
+unfoldable pub has_arity : Mono → Bool
+has_arity t = layer_arity (out-Mono t)
+
 -- the name that a scope has for an entity, by the first pair with it
 abbrev pub name_for : Entity → List (Entity × Name) → Option Name
 name_for e [] = None
@@ -63,6 +74,15 @@ abbrev pub is_spellable : TypeScope → Mono → Bool
 is_spellable scope =
     value Bool (λ e inner. (is_some (brackets_of e) || is_some (name_for e scope.names)) && list_all (λ b. b) inner) ◌&&◌
     (λ n. nat_lt n (length scope.variables))
+
+-- the same of the outermost layer alone
+abbrev pub layer_spelling : TypeScope → Mono-F Mono → Bool
+layer_spelling scope (Mono-F.Var n) = nat_lt n (length scope.variables)
+layer_spelling scope (Mono-F.Con e ts) = is_some (brackets_of e) || is_some (name_for e scope.names)
+layer_spelling scope (Mono-F.Fun a b) = true
+
+unfoldable pub has_spelling : TypeScope → Mono → Bool
+has_spelling scope t = layer_spelling scope (out-Mono t)
 
 -- what a text is made of: lexemes, and single blanks
 pub data Piece : Type 0 where

@@ -1,38 +1,37 @@
-ghost use Rattle.std.specs.Prelude.{◌≡◌, map, nat_eq, codes};
+ghost use Rattle.std.specs.Prelude.{◌≡◌, IfOk, nat_eq, codes};
 ghost use Rattle.std.specs.Cmp.Lexicographic.{pointwise};
-ghost use Rattle.std.specs.List.{list_all};
 ghost use Rattle.hr_type.specs.Spelling as spec;
 
 use crate::Mono;
+use crate::parts::push_parts;
 use crate::spell::{Brackets, brackets_of, is_prelude, is_type_name};
 use hr_base::Entity;
+use std::alloc::{AllocError, Global};
 
 /// Whether in a type lists, tuples and () have their numbers of arguments, and `->` stands as a
 /// function type alone.
-#[cycle(arities)]
-#[tactic(auto, using(crate::proofs::Terms::layers))]
-pub fn has_arities(ty: &Mono) -> bool
-    ensures { result ≡ spec.has_arities ty.now }
+pub fn has_arities(alloc: Global, ty: &Mono) -> Result<bool, AllocError>
+    ensures { IfOk result (λ yes. yes ≡ spec.has_arities ty.now) }
+{
+    let mut left = Vec::new(alloc);
+    left.push(ty)?;
+    while let Some(next) = left.pop() {
+        if !has_arity(next) {
+            return Ok(false);
+        }
+        push_parts(next, &mut left)?;
+    }
+    Ok(true)
+}
+
+fn has_arity(ty: &Mono) -> bool
+    ensures { result ≡ spec.has_arity ty.now }
 {
     match ty {
         Mono::Var(_) => true,
-        Mono::Con(entity, arguments) => {
-            fits_arity(entity, arguments.len()) && all_have_arities(arguments.as_slice())
-        }
-        Mono::Fun(from, to) => has_arities(from.get()) && has_arities(to.get()),
+        Mono::Con(entity, arguments) => fits_arity(entity, arguments.len()),
+        Mono::Fun(_, _) => true,
     }
-}
-
-#[cycle(arities)]
-fn all_have_arities(types: &[Mono]) -> bool
-    ensures { result ≡ list_all (λ b. b) (map spec.has_arities types.now) }
-{
-    for ty in types {
-        if !has_arities(ty) {
-            return false;
-        }
-    }
-    true
 }
 
 fn fits_arity(entity: &Entity, count: usize) -> bool

@@ -1,126 +1,77 @@
-ghost use Rattle.std.specs.Prelude.{◌≡◌, ◌↔◌, IfOk, IsTrue, map, Bool, Option};
+ghost use Rattle.std.specs.Prelude.{◌≡◌, ◌↔◌, ◌++◌, ◌∷◌, [], IfOk, IsTrue, None, OnErr, OnOk};
 ghost use Rattle.std.specs.Option.{option_copied};
-ghost use Rattle.hr_type.specs.declared.mono.Mono.TheVariants.{Var};
 ghost use Rattle.hr_type.specs.Matching.{Settles};
-ghost use Rattle.hr_type.specs.Types.{IsInstance, bounded, first_for, replaced};
+ghost use Rattle.hr_type.specs.Types.{IsInstance, bounded, first_for};
 
-use crate::mono::is_same_entity;
+use crate::parts::{have_same_head, is_variable, push_parts};
 use crate::{Mono, Scheme};
+use indexmap::IndexMap;
 use std::alloc::{AllocError, Global};
+
+/// Types of variables, in the order in which they were given.
+pub type Bindings = IndexMap<u32, Mono>;
 
 /// Whether some substitution of the bound variables of `general` gives `special`.
 pub fn instance(alloc: Global, general: &Scheme, special: &Mono) -> Result<bool, AllocError>
     ensures { IfOk result (λ yes. IsTrue yes ↔ IsInstance general.now special.now) }
 {
-    let mut chosen = Vec::new(alloc);
-    matches(alloc, general.bound, &mut chosen, &general.body, special)
-}
-
-/// Whether `general` becomes `special` by a substitution that fits the choices so far; where it
-/// does, the choices that this takes are added.
-#[cycle(matches)]
-fn matches(
-    alloc: Global,
-    bound: u32,
-    chosen: &mut Vec<(u32, Mono)>,
-    general: &Mono,
-    special: &Mono,
-) -> Result<bool, AllocError>
-    ensures { IfOk result (λ yes. Settles yes chosen.old.items chosen.new.items
-        (λ by. replaced (bounded bound by) general.now ≡ special.now)) }
-{
-    match general {
-        Mono::Var(variable) => match_variable(alloc, bound, chosen, *variable, special),
-        Mono::Con(entity, generals) => match special {
-            Mono::Var(_) => Ok(false),
-            Mono::Con(other, specials) => {
-                if !is_same_entity(entity, other) {
-                    return Ok(false);
-                }
-                match_all(
-                    alloc,
-                    bound,
-                    chosen,
-                    generals.as_slice(),
-                    specials.as_slice(),
-                )
+    let mut chosen = IndexMap::new(alloc);
+    let mut generals = Vec::new(alloc);
+    let mut specials = Vec::new(alloc);
+    generals.push(&general.body)?;
+    specials.push(special)?;
+    while let Some(pattern) = generals.pop() {
+        let Some(ty) = specials.pop() else {
+            return Ok(false);
+        };
+        if let Mono::Var(variable) = pattern {
+            if !match_variable(alloc, general.bound, &mut chosen, *variable, ty)? {
+                return Ok(false);
             }
-            Mono::Fun(_, _) => Ok(false),
-        },
-        Mono::Fun(from, to) => match special {
-            Mono::Var(_) => Ok(false),
-            Mono::Con(_, _) => Ok(false),
-            Mono::Fun(special_from, special_to) => {
-                if !matches(alloc, bound, chosen, from.get(), special_from.get())? {
-                    return Ok(false);
-                }
-                matches(alloc, bound, chosen, to.get(), special_to.get())
-            }
-        },
-    }
-}
-
-#[cycle(matches)]
-fn match_all(
-    alloc: Global,
-    bound: u32,
-    chosen: &mut Vec<(u32, Mono)>,
-    generals: &[Mono],
-    specials: &[Mono],
-) -> Result<bool, AllocError>
-    ensures { IfOk result (λ yes. Settles yes chosen.old.items chosen.new.items
-        (λ by. map (replaced (bounded bound by)) generals.now ≡ specials.now)) }
-{
-    if generals.len() != specials.len() {
-        return Ok(false);
-    }
-    for i in 0..generals.len() {
-        if !matches(alloc, bound, chosen, &generals[i], &specials[i])? {
+            continue;
+        }
+        if !have_same_head(pattern, ty) {
             return Ok(false);
         }
+        push_parts(pattern, &mut generals)?;
+        push_parts(ty, &mut specials)?;
     }
-    Ok(true)
+    Ok(specials.is_empty())
 }
 
 fn match_variable(
     alloc: Global,
     bound: u32,
-    chosen: &mut Vec<(u32, Mono)>,
+    chosen: &mut Bindings,
     variable: u32,
     special: &Mono,
 ) -> Result<bool, AllocError>
-    ensures { IfOk result (λ yes. Settles yes chosen.old.items chosen.new.items
+    ensures { IfOk result (λ yes. Settles yes chosen.old.entries chosen.new.entries
         (λ by. bounded bound by variable ≡ special.now)) }
 {
     if variable >= bound {
         return Ok(is_variable(special, variable));
     }
-    if let Some(ty) = look_up(chosen.as_slice(), variable) {
-        return Ok(ty.is_same(special));
+    if let Some(ty) = look_up(chosen, variable) {
+        return ty.is_same(alloc, special);
     }
-    chosen.push((variable, special.copied(alloc)?))?;
+    add(chosen, variable, special.copied(alloc)?)?;
     Ok(true)
 }
 
-/// Whether a type is the variable.
-pub fn is_variable(ty: &Mono, variable: u32) -> bool
-    ensures { IsTrue result ↔ (ty.now ≡ Var variable) }
+/// The type of a variable.
+pub fn look_up(bindings: &Bindings, variable: u32) -> Option<&Mono>
+    ensures { option_copied result ≡ first_for variable bindings.now.entries }
 {
-    match ty {
-        Mono::Var(other) => *other == variable,
-        Mono::Con(_, _) => false,
-        Mono::Fun(_, _) => false,
-    }
+    bindings.get(&variable)
 }
 
-/// The type of the first pair with the variable.
-pub fn look_up(pairs: &[(u32, Mono)], variable: u32) -> Option<&Mono>
-    ensures { option_copied result ≡ first_for variable pairs.now }
+/// Gives a variable that has none its type.
+pub fn add(bindings: &mut Bindings, variable: u32, ty: Mono) -> Result<(), AllocError>
+    requires { first_for variable bindings.old.entries ≡ None }
+    ensures added { OnOk result (bindings.new.entries ≡ bindings.old.entries ++ (variable, ty) ∷ []) }
+    ensures unchanged { OnErr result (bindings.new.entries ≡ bindings.old.entries) }
 {
-    for (other, ty) in pairs {
-        if *other == variable {
-            return Some(ty);
-        }
-    }
-    None
+    bindings.insert(variable, ty)?;
+    Ok(())
 }

@@ -1,9 +1,12 @@
-//! Types and type schemes: equality, instances, and their spelling in a scope.
+//! Types and type schemes: equality, measures, instances, and their spelling in a scope.
 #![tactic(auto)]
 
 mod arity;
+mod copy;
 mod general;
+mod measure;
 mod mono;
+mod parts;
 mod print;
 mod same;
 mod spell;
@@ -12,7 +15,10 @@ mod tests;
 mod write;
 
 pub use arity::has_arities;
-pub use general::{instance, is_variable, look_up};
-pub use mono::{Mono, Scheme, copies_of, entity_copied, is_same_entity};
+pub use copy::{copies_of, rebuilt};
+pub use general::{Bindings, add, instance, look_up};
+pub use measure::{depth_of_type, size_of_type};
+pub use mono::{Mono, Scheme, entity_copied, is_same_entity};
+pub use parts::{have_same_head, is_variable, push_parts};
 pub use print::print_in;
 pub use spell::TypeScope;

@@ -1,13 +1,16 @@
 ghost use Rattle.std.specs.Prelude.{◌≡◌, ◌↔◌, IfOk, IsTrue};
+ghost use Rattle.std.specs.Option.{IfSome};
 ghost use Rattle.hr_type.specs.Types.{same_entity};
+ghost use Rattle.hr_type.specs.Sizes.{size, held, Falls};
+ghost use Rattle.hr_type.specs.declared.mono.Mono.TheVariants.{Con, Fun};
 
 use hr_base::Entity;
-use sqlite_items::{Boxed, Items};
-use std::alloc::{AllocError, Global};
+use hr_items::{Boxed, Items};
+use std::alloc::AllocError;
+use std::fmt;
 
 /// A type without quantifiers: a variable by its number, a constructor with its arguments, or a
-/// function type.
-#[derive(Debug, Drop)]
+/// function type. It is as deep as memory holds, so nothing here calls itself along it.
 pub enum Mono {
     Var(u32),
     Con(Entity, Items<Mono>),
@@ -21,37 +24,102 @@ pub struct Scheme {
     pub body: Mono,
 }
 
-impl Mono {
-    /// A type equal to this one.
-    #[cycle(copied)]
-    pub fn copied(&self, alloc: Global) -> Result<Mono, AllocError>
-        ensures { IfOk result (λ copy. copy ≡ self.now) }
-    {
-        match self {
-            Mono::Var(variable) => Ok(Mono::Var(*variable)),
-            Mono::Con(entity, arguments) => {
-                let copies = copies_of(alloc, arguments.as_slice())?;
-                Ok(Mono::Con(entity_copied(entity)?, copies))
-            }
-            Mono::Fun(from, to) => {
-                let from = Boxed::new(alloc, from.get().copied(alloc)?)?;
-                let to = Boxed::new(alloc, to.get().copied(alloc)?)?;
-                Ok(Mono::Fun(from, to))
-            }
+impl Drop for Mono {
+    /// Frees a type by a loop and without memory: what is still to be freed hangs in the places that
+    /// are free already.
+    fn drop(self) {
+        let mut ty = self;
+        let mut rest = Mono::Var(0);
+        while let Some((next, later)) = Mono::taken_apart(ty, rest) {
+            ty = next;
+            rest = later;
         }
     }
 }
 
-/// Types equal to these, in order.
-#[cycle(copied)]
-pub fn copies_of(alloc: Global, types: &[Mono]) -> Result<Items<Mono>, AllocError>
-    ensures { IfOk result (λ copies. copies ≡ types.now) }
-{
-    let mut copies = Items::new(alloc);
-    for ty in types {
-        copies.push(ty.copied(alloc)?)?;
+impl Mono {
+    /// Takes the outermost layer of `ty` apart, or hangs `rest` into it: what to free next, and what
+    /// is left then. A variable as `rest` is nothing. A place that `rest` hangs in is come to once
+    /// the others of its layer are free, so a layer is come to once for each of its parts.
+    fn taken_apart(ty: Mono, rest: Mono) -> Option<(Mono, Mono)>
+        ensures { IfSome result (λ r. Falls (size r.0) (held r.1) (size ty) (held rest)) }
+    {
+        match ty {
+            Mono::Var(_) => Mono::turned(rest),
+            Mono::Con(entity, arguments) => match rest {
+                Mono::Var(_) => Mono::last_argument(entity, arguments),
+                Mono::Con(other, others) => {
+                    Mono::hung_in_arguments(entity, arguments, Mono::Con(other, others))
+                }
+                Mono::Fun(from, to) => {
+                    Mono::hung_in_arguments(entity, arguments, Mono::Fun(from, to))
+                }
+            },
+            Mono::Fun(from, to) => match rest {
+                Mono::Var(_) => Some((to.into_inner(), from.into_inner())),
+                Mono::Con(entity, arguments) => {
+                    Some(Mono::hung_in_function(from, to, Mono::Con(entity, arguments)))
+                }
+                Mono::Fun(other, others) => {
+                    Some(Mono::hung_in_function(from, to, Mono::Fun(other, others)))
+                }
+            },
+        }
     }
-    Ok(copies)
+
+    fn turned(rest: Mono) -> Option<(Mono, Mono)>
+        ensures { IfSome result (λ r. (r.0 ≡ rest) × (held r.1 ≡ 0) × (held rest ≡ size rest)) }
+    {
+        match rest {
+            Mono::Var(_) => None,
+            Mono::Con(entity, arguments) => Some((Mono::Con(entity, arguments), Mono::Var(0))),
+            Mono::Fun(from, to) => Some((Mono::Fun(from, to), Mono::Var(0))),
+        }
+    }
+
+    fn last_argument(entity: Entity, arguments: Items<Mono>) -> Option<(Mono, Mono)>
+        ensures { IfSome result (λ r. Falls (size r.0) (held r.1) (size (Con entity arguments)) 0) }
+    {
+        let mut arguments = arguments;
+        match arguments.pop() {
+            None => {
+                arguments.close();
+                None
+            }
+            Some(last) => Some((last, Mono::Con(entity, arguments))),
+        }
+    }
+
+    fn hung_in_arguments(entity: Entity, arguments: Items<Mono>, rest: Mono) -> Option<(Mono, Mono)>
+        ensures { IfSome result (λ r. Falls (size r.0) (held r.1) (size (Con entity arguments)) (size rest)) }
+    {
+        let mut arguments = arguments;
+        if arguments.len() == 0 {
+            arguments.close();
+            return Some((rest, Mono::Var(0)));
+        }
+        let first = arguments.exchange(0, rest);
+        Some((first, Mono::Con(entity, arguments)))
+    }
+
+    fn hung_in_function(from: Boxed<Mono>, to: Boxed<Mono>, rest: Mono) -> (Mono, Mono)
+        ensures { Falls (size result.0) (held result.1) (size (Fun from to)) (size rest) }
+    {
+        let mut from = from;
+        let first = from.exchange(rest);
+        (first, Mono::Fun(from, to))
+    }
+}
+
+impl fmt::Debug for Mono {
+    /// The outermost layer alone.
+    fn fmt<W: fmt::Write>(&self, f: &mut fmt::Formatter<W>) -> fmt::Result {
+        match self {
+            Mono::Var(variable) => write!(f, "Var({variable})"),
+            Mono::Con(_, arguments) => write!(f, "Con(_, {} arguments)", arguments.len()),
+            Mono::Fun(_, _) => f.write_str("Fun(_, _)"),
+        }
+    }
 }
 
 /// An entity equal to this one.

@@ -15,10 +15,11 @@ pub fn print_in(alloc: Global, ty: &Mono, scope: &TypeScope) -> Result<Option<Ve
     ensures { IfOk result (λ printed. MatchOption printed
         (spellable scope.now ty.now ≡ false) (λ text. Spells scope.now ty.now text.items)) }
 {
-    if !is_spellable(scope, ty) {
+    let named = is_spellable(alloc, scope, ty)?;
+    if !named {
         return Ok(None);
     }
     let mut text = Vec::new(alloc);
-    write_type(scope, ty, &mut text)?;
+    write_type(alloc, scope, ty, &mut text)?;
     Ok(Some(text))
 }

@@ -1,56 +1,28 @@
-ghost use Rattle.std.specs.Prelude.{◌≡◌, ◌↔◌, IsTrue, length};
+ghost use Rattle.std.specs.Prelude.{◌≡◌, ◌↔◌, IfOk, IsTrue};
 
 use crate::Mono;
-use crate::mono::is_same_entity;
+use crate::parts::{have_same_head, push_parts};
+use std::alloc::{AllocError, Global};
 
 impl Mono {
     /// Whether two types are one.
-    #[cycle(same)]
-    pub fn is_same(&self, other: &Mono) -> bool
-        ensures { IsTrue result ↔ (self.now ≡ other.now) }
+    pub fn is_same(&self, alloc: Global, other: &Mono) -> Result<bool, AllocError>
+        ensures { IfOk result (λ yes. IsTrue yes ↔ (self.now ≡ other.now)) }
     {
-        match self {
-            Mono::Var(left) => match other {
-                Mono::Var(right) => left == right,
-                Mono::Con(_, _) => false,
-                Mono::Fun(_, _) => false,
-            },
-            Mono::Con(entity, lefts) => match other {
-                Mono::Var(_) => false,
-                Mono::Con(other_entity, rights) => {
-                    if !is_same_entity(entity, other_entity) {
-                        return false;
-                    }
-                    are_same(lefts.as_slice(), rights.as_slice())
-                }
-                Mono::Fun(_, _) => false,
-            },
-            Mono::Fun(from, to) => match other {
-                Mono::Var(_) => false,
-                Mono::Con(_, _) => false,
-                Mono::Fun(other_from, other_to) => {
-                    if !from.get().is_same(other_from.get()) {
-                        return false;
-                    }
-                    to.get().is_same(other_to.get())
-                }
-            },
+        let mut lefts = Vec::new(alloc);
+        let mut rights = Vec::new(alloc);
+        lefts.push(self)?;
+        rights.push(other)?;
+        while let Some(left) = lefts.pop() {
+            let Some(right) = rights.pop() else {
+                return Ok(false);
+            };
+            if !have_same_head(left, right) {
+                return Ok(false);
+            }
+            push_parts(left, &mut lefts)?;
+            push_parts(right, &mut rights)?;
         }
+        Ok(rights.is_empty())
     }
-}
-
-/// Whether two lists of types are one.
-#[cycle(same)]
-fn are_same(lefts: &[Mono], rights: &[Mono]) -> bool
-    ensures { IsTrue result ↔ (lefts.now ≡ rights.now) }
-{
-    if lefts.len() != rights.len() {
-        return false;
-    }
-    for i in 0..lefts.len() {
-        if !lefts[i].is_same(&rights[i]) {
-            return false;
-        }
-    }
-    true
 }

@@ -9,6 +9,7 @@ ghost use Rattle.hr_type.specs.declared.spell.TypeScope.{TypeScope};
 
 use crate::Mono;
 use crate::mono::is_same_entity;
+use crate::parts::push_parts;
 use hr_base::{Entity, Name, Seq, Space, Text};
 use std::alloc::{AllocError, Global};
 
@@ -108,30 +109,28 @@ pub fn name_for<'a>(entity: &Entity, names: &'a [(Entity, Name)]) -> Option<&'a 
 }
 
 /// Whether each constructor of a type is syntax or has a name, and each variable a text.
-#[cycle(spellable)]
-#[tactic(auto, using(crate::proofs::Terms::layers))]
-pub fn is_spellable(scope: &TypeScope, ty: &Mono) -> bool
-    ensures { result ≡ spec.is_spellable scope.now ty.now }
+pub fn is_spellable(alloc: Global, scope: &TypeScope, ty: &Mono) -> Result<bool, AllocError>
+    ensures { IfOk result (λ yes. yes ≡ spec.is_spellable scope.now ty.now) }
+{
+    let mut left = Vec::new(alloc);
+    left.push(ty)?;
+    while let Some(next) = left.pop() {
+        if !has_spelling(scope, next) {
+            return Ok(false);
+        }
+        push_parts(next, &mut left)?;
+    }
+    Ok(true)
+}
+
+fn has_spelling(scope: &TypeScope, ty: &Mono) -> bool
+    ensures { result ≡ spec.has_spelling scope.now ty.now }
 {
     match ty {
         Mono::Var(variable) => (*variable as usize) < scope.variables.len(),
-        Mono::Con(entity, arguments) => {
-            is_named(scope, entity) && are_spellable(scope, arguments.as_slice())
-        }
-        Mono::Fun(from, to) => is_spellable(scope, from.get()) && is_spellable(scope, to.get()),
+        Mono::Con(entity, _) => is_named(scope, entity),
+        Mono::Fun(_, _) => true,
     }
-}
-
-#[cycle(spellable)]
-fn are_spellable(scope: &TypeScope, types: &[Mono]) -> bool
-    ensures { result ≡ list_all (λ b. b) (map (spec.is_spellable scope.now) types.now) }
-{
-    for ty in types {
-        if !is_spellable(scope, ty) {
-            return false;
-        }
-    }
-    true
 }
 
 fn is_named(scope: &TypeScope, entity: &Entity) -> bool

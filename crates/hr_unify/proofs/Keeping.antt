@@ -1,37 +1,37 @@
 -- What is kept from step to step.
-use Rattle.std.proofs.Common.{◌≡◌, ◌+◌, ◌<◌, ℕ, suc, List, [], ◌∷◌, ◌++◌, map, length, get_or, Option, Some, None, Result, Ok, Err, IfOk, refl, sym, ap, ◌∙◌, subst, inl, inr, arith, append-nil, append_assoc}
+use Rattle.std.proofs.Common.{◌≡◌, ◌≢◌, ◌⊎◌, ◌+◌, ◌<◌, ℕ, suc, true, false, cond, eqb, Bor, List, [], ◌∷◌, ◌++◌, map, length, get_or, Option, Some, None, Result, Ok, Err, IfOk, refl, sym, ap, ◌∙◌, subst, inl, inr, arith, append-nil, append_assoc, drop, add-one, drop-cons}
 use Rattle.std.specs.List.{AllByRecursion as Each, concat}
-use Rattle.std.proofs.lemmas.List.{length_push}
 use Rattle.hr_base.specs.declared.bind.Entity.{Entity}
 use Rattle.hr_type.specs.declared.mono.Mono.{Mono}
 use Rattle.hr_type.specs.declared.mono.Mono.TheVariants.{Var, Con, Fun}
 use Rattle.hr_type.specs.Types.{replaced, variables, first_for}
 use Rattle.hr_type.proofs.Terms.{value-con, value-fun}
-use Rattle.hr_unify.specs.declared.work.Work.{Work}
-use Rattle.hr_unify.specs.declared.work.Work.TheVariants.{Equation, Settled}
+use Rattle.std.proofs.lemmas.Bool.Decides.{eqb_tells}
+use Rattle.hr_unify.specs.Tasks.{Task, Equation, Settled, marks, plain, put}
 use Rattle.hr_unify.specs.declared.solve.UnifyError.{UnifyError}
 use Rattle.hr_unify.specs.declared.solve.UnifyError.TheVariants.{Mismatch, Occurs, Memory}
 use Rattle.hr_unify.specs.Unifiers.{IsOneOf, Pairs, Equations, Unifies, halves, IsGood}
+use Rattle.hr_unify.specs.Unifiers.{names}
 use Rattle.hr_unify.specs.Refusals.{Related, chained, turned, argument, domain, range, Clashes, head_of, no_head, arrow_head, head}
 use Rattle.hr_unify.specs.Weights.{work_load}
-use Rattle.hr_unify.specs.Working.{IsKnown, Follows, PairFollows, Equals, Waits, Keeps, names, Opens, paired, Goes, Splits}
+use Rattle.hr_unify.specs.Working.{IsKnown, Follows, PairFollows, Equals, Waits, Keeps, Opens, paired, Goes, Splits, IsMismatch}
 use Rattle.hr_unify.proofs.Lists.{each_of, each_left, each_right, each_both, first_one}
 use Rattle.hr_unify.proofs.Values.{variables_con, variables_fun}
 use Rattle.hr_unify.proofs.Finding.{half_of}
-use Rattle.hr_unify.proofs.Loads.{lighter_dropped, lighter_opened, lighter_arguments, lighter_functions, lighter_settled}
+use Rattle.hr_unify.proofs.Loads.{lighter_dropped, lighter_opened, lighter_replaced, lighter_arguments, lighter_functions, lighter_settled, turned_load}
 use Rattle.hr_unify.proofs.Relates.{head_con, head_fun}
 
 By : Type 0
 By = ℕ → Mono
 
-waits_change : (S T : Pairs) (A old new : List Work) → ((by : ℕ → Mono) → Unifies by (halves T) → Each (Equals by) new → Unifies by (halves S) × Each (Equals by) old) → Waits S (A ++ old) → Waits T new → Waits T (A ++ new)
+waits_change : (S T : Pairs) (A old new : List Task) → ((by : ℕ → Mono) → Unifies by (halves T) → Each (Equals by) new → Unifies by (halves S) × Each (Equals by) old) → Waits S (A ++ old) → Waits T new → Waits T (A ++ new)
 waits_change S T [] old new implied w v = v
 waits_change S T (Equation l r ∷ A) old new implied w v = waits_change S T A old new implied w v
 waits_change S T (Settled x r ∷ A) old new implied w v =
     (λ by u e. let f = implied by u (each_right (Equals by) A new e) in w.0 by f.0 (each_both (Equals by) A old (each_left (Equals by) A new e) f.1), waits_change S T A old new implied w.1 v)
 
 -- work on top may be changed for work that implies it
-pub keeps_change : (es : Equations) (S T : Pairs) (A old new : List Work) (D E : Pairs) → Keeps es S (A ++ old) D
+pub keeps_change : (es : Equations) (S T : Pairs) (A old new : List Task) (D E : Pairs) → Keeps es S (A ++ old) D
     → ((by : ℕ → Mono) → Unifies by (halves T) → Each (Equals by) new → Unifies by (halves S) × Each (Equals by) old)
     → Each (PairFollows es) T → Each (Follows es) new → Waits T new → ((by : ℕ → Mono) → Unifies by (halves T) → Unifies by (halves E)) → Keeps es T (A ++ new) E
 keeps_change es S T A old new D E k implied pairs follows waits repeats = record {
@@ -42,18 +42,10 @@ keeps_change es S T A old new D E k implied pairs follows waits repeats = record
   repeats = repeats;
 }
 
-waits_last : (S : Pairs) (A : List Work) (x : ℕ) (o : Mono) → Waits S (A ++ Settled x o ∷ []) → (by : ℕ → Mono) → Unifies by (halves S) → replaced by (Var x) ≡ replaced by o
+waits_last : (S : Pairs) (A : List Task) (x : ℕ) (o : Mono) → Waits S (A ++ Settled x o ∷ []) → (by : ℕ → Mono) → Unifies by (halves S) → replaced by (Var x) ≡ replaced by o
 waits_last S [] x o w = λ by u. w.0 by u tt
 waits_last S (Equation l r ∷ A) x o w = waits_last S A x o w
 waits_last S (Settled y q ∷ A) x o w = waits_last S A x o w.1
-
-halves_push : (D : Pairs) (x : ℕ) (o : Mono) → halves (D ++ (x, o) ∷ []) ≡ halves D ++ (Var x, o) ∷ []
-halves_push [] x o = refl
-halves_push (p ∷ D) x o = ap (λ es. (Var p.0, p.1) ∷ es) (halves_push D x o)
-
-unifies_push : (by : ℕ → Mono) (D : Pairs) (x : ℕ) (o : Mono) → Unifies by (halves D) → replaced by (Var x) ≡ replaced by o → Unifies by (halves (D ++ (x, o) ∷ []))
-unifies_push by [] x o u e = (e, tt)
-unifies_push by (p ∷ D) x o u e = (u.0, unifies_push by D x o u.1 e)
 
 unifies_split : (by : ℕ → Mono) (D : Pairs) (x : ℕ) (o : Mono) → Unifies by (halves (D ++ (x, o) ∷ [])) → Unifies by (halves D) × (replaced by (Var x) ≡ replaced by o)
 unifies_split by [] x o u = (tt, u.0)
@@ -100,12 +92,12 @@ paired_waits S (t ∷ ts) [] = tt
 paired_waits S (t ∷ ts) (u ∷ us) =
     waits_change S S (paired ts us) [] (Equation t u ∷ []) (λ by v e. (v, tt)) (subst (Waits S) (sym (append-nil (paired ts us))) (paired_waits S ts us)) tt
 
-module _ (es : Equations) (S : Pairs) (A : List Work) (D : Pairs) where
+module _ (es : Equations) (S : Pairs) (A : List Task) (D : Pairs) where
   -- the same with the pairs and what is settled as they are
-  keeps_top : (old new : List Work) → Keeps es S (A ++ old) D → ((by : ℕ → Mono) → Unifies by (halves S) → Each (Equals by) new → Each (Equals by) old) → Each (Follows es) new → Waits S new → Keeps es S (A ++ new) D
+  keeps_top : (old new : List Task) → Keeps es S (A ++ old) D → ((by : ℕ → Mono) → Unifies by (halves S) → Each (Equals by) new → Each (Equals by) old) → Each (Follows es) new → Waits S new → Keeps es S (A ++ new) D
   keeps_top old new k implied follows waits = keeps_change es S S A old new D D k (λ by u e. (u, implied by u e)) k.pairs_follow follows waits k.repeats
 
-  top_follows : (item : Work) → Keeps es S (A ++ item ∷ []) D → Follows es item
+  top_follows : (item : Task) → Keeps es S (A ++ item ∷ []) D → Follows es item
   top_follows item k = (each_right (Follows es) A (item ∷ []) k.work_follows).0
 
   pub keeps_none : Keeps es S (A ++ []) D → Keeps es S A D
@@ -137,14 +129,21 @@ module _ (es : Equations) (S : Pairs) (A : List Work) (D : Pairs) where
       keeps_top (Equation (Var x) o ∷ []) (Settled x o ∷ Equation t o ∷ []) k (λ by u e. (pair_equal by x t found u ∙ e.1.0, tt))
       (tt, ((chained t (Var x) o (turned (Var x) t p.0) f.0, p.1, f.2), tt)) ((λ by u e. pair_equal by x t found u ∙ e.0), tt)
 
+  -- the same without settling
+  pub keeps_replaced : (x : ℕ) (t o : Mono) → first_for x S ≡ Some t → Keeps es S (A ++ Equation (Var x) o ∷ []) D → Keeps es S (A ++ Equation t o ∷ []) D
+  keeps_replaced x t o found k =
+      let f = top_follows (Equation (Var x) o) k in
+      let p : PairFollows es (x, t) = each_of (PairFollows es) S (x, t) k.pairs_follow (first_one x t S found) in
+      keeps_top (Equation (Var x) o ∷ []) (Equation t o ∷ []) k (λ by u e. (pair_equal by x t found u ∙ e.0, tt)) ((chained t (Var x) o (turned (Var x) t p.0) f.0, p.1, f.2), tt) tt
+
   -- what waited is settled
-  pub keeps_marked : (x : ℕ) (o : Mono) → Keeps es S (A ++ Settled x o ∷ []) D → Keeps es S A (D ++ (x, o) ∷ [])
-  keeps_marked x o k =
+  pub keeps_marked : (x : ℕ) (o : Mono) (E : Pairs) → ((by : ℕ → Mono) → Unifies by (halves D) → replaced by (Var x) ≡ replaced by o → Unifies by (halves E)) → Keeps es S (A ++ Settled x o ∷ []) D → Keeps es S A E
+  keeps_marked x o E settles k =
       let waited = waits_last S A x o k.waits in
-      keeps_none' (keeps_change es S S A (Settled x o ∷ []) [] D (D ++ (x, o) ∷ []) k (λ by u e. (u, (tt, tt))) k.pairs_follow tt tt (λ by u. unifies_push by D x o (k.repeats by u) (waited by u)))
+      none_left (keeps_change es S S A (Settled x o ∷ []) [] D E k (λ by u e. (u, (tt, tt))) k.pairs_follow tt tt (λ by u. settles by (k.repeats by u) (waited by u)))
     where
-      keeps_none' : Keeps es S (A ++ []) (D ++ (x, o) ∷ []) → Keeps es S A (D ++ (x, o) ∷ [])
-      keeps_none' h = subst (λ w. Keeps es S w (D ++ (x, o) ∷ [])) (append-nil A) h
+      none_left : Keeps es S (A ++ []) E → Keeps es S A E
+      none_left h = subst (λ w. Keeps es S w E) (append-nil A) h
 
   pub keeps_functions : (a b c d : Mono) → Keeps es S (A ++ Equation (Fun a b) (Fun c d) ∷ []) D → Keeps es S (A ++ Equation b d ∷ Equation a c ∷ []) D
   keeps_functions a b c d k =
@@ -173,41 +172,34 @@ module _ (es : Equations) (S : Pairs) (A : List Work) (D : Pairs) where
       (λ by u e. let v = unifies_split by S x t u in (v.0, (v.1, tt)))
       (each_both (PairFollows es) S ((x, t) ∷ []) k.pairs_follow ((f.0, f.2), tt)) tt tt (λ by u. k.repeats by (unifies_split by S x t u).0))
 
--- one more pair of arguments at the end comes first
-pub paired_last : (ts us : List Mono) (t u : Mono) → length ts ≡ length us → paired (ts ++ t ∷ []) (us ++ u ∷ []) ≡ Equation t u ∷ paired ts us
-paired_last [] [] t u long = refl
-paired_last [] (w ∷ us) t u long = let z : 0 ≡ suc (length us) = long in absurd (omega arith)
-paired_last (v ∷ ts) [] t u long = let z : suc (length ts) ≡ 0 = long in absurd (omega arith)
-paired_last (v ∷ ts) (w ∷ us) t u long =
-    let shorter : length ts ≡ length us = (let z : suc (length ts) ≡ suc (length us) = long in omega arith) in
-    ap (λ ws. ws ++ Equation v w ∷ []) (paired_last ts us t u shorter)
-
-pub paired_popped : (ts us ls rs : List Mono) (l r : Mono) (work pushed whole : List Work) → length ts ≡ length us → ts ≡ ls ++ l ∷ [] → us ≡ rs ++ r ∷ [] → work ++ paired ts us ≡ whole → pushed ≡ work ++ Equation l r ∷ []
-    → (length ls ≡ length rs) × (pushed ++ paired ls rs ≡ whole)
-paired_popped ts us ls rs l r work pushed whole long is_ts is_us e p =
-    let k : length ls + 1 ≡ length rs + 1 = sym (length_push ls l) ∙ sym (ap length is_ts) ∙ long ∙ ap length is_us ∙ length_push rs r in
-    let short : length ls ≡ length rs = omega arith in (
-      short,
-      ap (λ w. w ++ paired ls rs) p ∙ append_assoc work (Equation l r ∷ []) (paired ls rs) ∙ ap (λ w. work ++ w) (sym (paired_last ls rs l r short))
-          ∙ sym (ap (λ w. work ++ w) (λ i. paired (is_ts i) (is_us i))) ∙ e,
-    )
+-- one more pair of arguments, before the others
+pub paired_pushed : (ts us : List Mono) (i n : ℕ) (t u : Mono) → n ≡ i + 1 → i < length ts → i < length us → t ≡ get_or ts i t → u ≡ get_or us i u → (old work pushed : List Task)
+    → work ≡ old ++ paired (drop n ts) (drop n us) → pushed ≡ work ++ Equation t u ∷ [] → pushed ≡ old ++ paired (drop i ts) (drop i us)
+paired_pushed ts us i n t u e within beside is_t is_u old work pushed h k =
+    k ∙ ap (λ w. w ++ Equation t u ∷ []) (h ∙ ap (λ m. old ++ paired (drop m ts) (drop m us)) e) ∙ append_assoc old (paired (drop (i + 1) ts) (drop (i + 1) us)) (Equation t u ∷ [])
+    ∙ ap (λ w. old ++ w) (sym (λ j. paired (here ts t within is_t j) (here us u beside is_u j)))
+  where
+    here : (ts : List Mono) (t : Mono) → i < length ts → t ≡ get_or ts i t → drop i ts ≡ t ∷ drop (i + 1) ts
+    here ts t inside is = rw (add-one, drop-cons ts i t) (ap (λ x. x ∷ drop (suc i) ts) (sym is))
 
 -- the type of a variable in its place, or its equation dropped
-module _ (S : Pairs) (x : ℕ) (t o : Mono) (A new : List Work) (D : Pairs) (found : first_for x S ≡ Some t) where
+module _ (S : Pairs) (x : ℕ) (t o : Mono) (A new : List Task) (D : Pairs) (found : first_for x S ≡ Some t) where
   pub opens_goes : Opens D x t o A new → (es : Equations) → Keeps es S (A ++ Equation (Var x) o ∷ []) D → Keeps es S new D
   opens_goes (inl h) es k = subst (λ w. Keeps es S w D) (sym h.1) (keeps_settled es S A D x o h.0 k)
-  opens_goes (inr h) es k = subst (λ w. Keeps es S w D) (sym h) (keeps_opened es S A D x t o found k)
+  opens_goes (inr (inl h)) es k = subst (λ w. Keeps es S w D) (sym h) (keeps_opened es S A D x t o found k)
+  opens_goes (inr (inr h)) es k = subst (λ w. Keeps es S w D) (sym h) (keeps_replaced es S A D x t o found k)
 
   pub opens_lighter : IsGood S → Opens D x t o A new → work_load S new < work_load S (A ++ Equation (Var x) o ∷ [])
   opens_lighter good (inl h) = subst (λ w. work_load S w < work_load S (A ++ Equation (Var x) o ∷ [])) (sym h.1) (lighter_dropped S good A x o)
-  opens_lighter good (inr h) = subst (λ w. work_load S w < work_load S (A ++ Equation (Var x) o ∷ [])) (sym h) (lighter_opened S good A x t o found)
+  opens_lighter good (inr (inl h)) = subst (λ w. work_load S w < work_load S (A ++ Equation (Var x) o ∷ [])) (sym h) (lighter_opened S good A x t o found)
+  opens_lighter good (inr (inr h)) = subst (λ w. work_load S w < work_load S (A ++ Equation (Var x) o ∷ [])) (sym h) (lighter_replaced S good A x t o found)
 
 -- an equation by the types that the code finds
-pub keeps_named : (es : Equations) (S : Pairs) (A : List Work) (D : Pairs) (l m r n : Mono) → l ≡ m → r ≡ n → Keeps es S (A ++ Equation l r ∷ []) D → Keeps es S (A ++ Equation m n ∷ []) D
-keeps_named es S A D l m r n e f k = subst (λ (item : Work). Keeps es S (A ++ item ∷ []) D) (λ i. Equation (e i) (f i)) k
+pub keeps_named : (es : Equations) (S : Pairs) (A : List Task) (D : Pairs) (l m r n : Mono) → l ≡ m → r ≡ n → Keeps es S (A ++ Equation l r ∷ []) D → Keeps es S (A ++ Equation m n ∷ []) D
+keeps_named es S A D l m r n e f k = subst (λ (item : Task). Keeps es S (A ++ item ∷ []) D) (λ i. Equation (e i) (f i)) k
 
-pub load_named : (S : Pairs) (A : List Work) (l m r n : Mono) → l ≡ m → r ≡ n → work_load S (A ++ Equation m n ∷ []) ≡ work_load S (A ++ Equation l r ∷ [])
-load_named S A l m r n e f = ap (λ (item : Work). work_load S (A ++ item ∷ [])) (λ i. Equation (sym e i) (sym f i))
+pub load_named : (S : Pairs) (A : List Task) (l m r n : Mono) → l ≡ m → r ≡ n → work_load S (A ++ Equation m n ∷ []) ≡ work_load S (A ++ Equation l r ∷ [])
+load_named S A l m r n e f = ap (λ (item : Task). work_load S (A ++ item ∷ [])) (λ i. Equation (sym e i) (sym f i))
 
 con_no_head : (e : Entity) (ts : List Mono) → head_of (Con e ts) ≡ no_head → ⊥
 con_no_head e ts h = let k : head e (length ts) ≡ no_head = sym (head_con e ts) ∙ h in cc
@@ -215,15 +207,15 @@ con_no_head e ts h = let k : head e (length ts) ≡ no_head = sym (head_con e ts
 fun_no_head : (a b : Mono) → head_of (Fun a b) ≡ no_head → ⊥
 fun_no_head a b h = let k : arrow_head ≡ no_head = sym (head_fun a b) ∙ h in cc
 
-pub clash_con_fun : (es : Equations) (S : Pairs) (A : List Work) (D : Pairs) (e : Entity) (ts : List Mono) (a b : Mono) → Keeps es S (A ++ Equation (Con e ts) (Fun a b) ∷ []) D → Clashes es (Con e ts) (Fun a b)
+pub clash_con_fun : (es : Equations) (S : Pairs) (A : List Task) (D : Pairs) (e : Entity) (ts : List Mono) (a b : Mono) → Keeps es S (A ++ Equation (Con e ts) (Fun a b) ∷ []) D → Clashes es (Con e ts) (Fun a b)
 clash_con_fun es S A D e ts a b k =
     keeps_clash es S A D (Con e ts) (Fun a b) (con_no_head e ts) (fun_no_head a b) (λ h. let q : head e (length ts) ≡ arrow_head = sym (head_con e ts) ∙ h ∙ head_fun a b in cc) k
 
-pub clash_fun_con : (es : Equations) (S : Pairs) (A : List Work) (D : Pairs) (e : Entity) (ts : List Mono) (a b : Mono) → Keeps es S (A ++ Equation (Fun a b) (Con e ts) ∷ []) D → Clashes es (Fun a b) (Con e ts)
+pub clash_fun_con : (es : Equations) (S : Pairs) (A : List Task) (D : Pairs) (e : Entity) (ts : List Mono) (a b : Mono) → Keeps es S (A ++ Equation (Fun a b) (Con e ts) ∷ []) D → Clashes es (Fun a b) (Con e ts)
 clash_fun_con es S A D e ts a b k =
     keeps_clash es S A D (Fun a b) (Con e ts) (fun_no_head a b) (con_no_head e ts) (λ h. let q : head e (length ts) ≡ arrow_head = sym (head_con e ts) ∙ sym h ∙ head_fun a b in cc) k
 
-pub splits_goes : (S : Pairs) (A new : List Work) (D : Pairs) (e f : Entity) (ts us : List Mono) (r : Result (Option (ℕ × Mono)) UnifyError) → Splits e ts f us A new r
+pub splits_goes : (S : Pairs) (A new : List Task) (D : Pairs) (e f : Entity) (ts us : List Mono) (r : Result (Option (ℕ × Mono)) UnifyError) → Splits e ts f us A new r
     → (es : Equations) → Keeps es S (A ++ Equation (Con e ts) (Con f us) ∷ []) D → Goes es S new D r
 splits_goes S A new D e f ts us (Ok None) h es k =
     subst (λ w. Keeps es S w D) (sym h.2) (keeps_arguments es S A D e ts us h.1 (subst (λ g. Keeps es S (A ++ Equation (Con e ts) (Con g us) ∷ []) D) (sym h.0) k))
@@ -234,16 +226,16 @@ splits_goes S A new D e f ts us (Err (Mismatch l r)) h es k =
 splits_goes S A new D e f ts us (Err (Occurs x t)) h es k = absurd h
 splits_goes S A new D e f ts us (Err (Memory m)) h es k = tt
 
-pub splits_lighter : (S : Pairs) (A new : List Work) (e f : Entity) (ts us : List Mono) (r : Result (Option (ℕ × Mono)) UnifyError) → Splits e ts f us A new r
+pub splits_lighter : (S : Pairs) (A new : List Task) (e f : Entity) (ts us : List Mono) (r : Result (Option (ℕ × Bor Mono)) UnifyError) → Splits e ts f us A new (plain r)
     → IfOk r (λ b. b ≡ None → work_load S new < work_load S (A ++ Equation (Con e ts) (Con f us) ∷ []))
 splits_lighter S A new e f ts us (Ok None) h = λ _. subst (λ w. work_load S w < work_load S (A ++ Equation (Con e ts) (Con f us) ∷ [])) (sym h.2) (lighter_arguments S A e f ts us)
 splits_lighter S A new e f ts us (Ok (Some b)) h = absurd h
 splits_lighter S A new e f ts us (Err m) h = tt
 
-pub lighter_than : {E : Type 0} (r : Result (Option (ℕ × Mono)) E) (new m n : ℕ) → m ≡ n → IfOk r (λ b. b ≡ None → new < m) → IfOk r (λ b. b ≡ None → new < n)
+pub lighter_than : {X E : Type 0} (r : Result (Option X) E) (new m n : ℕ) → m ≡ n → IfOk r (λ b. b ≡ None → new < m) → IfOk r (λ b. b ≡ None → new < n)
 lighter_than r new m n e h = subst (λ k. IfOk r (λ b. b ≡ None → new < k)) e h
 
-pub functions_lighter : (S : Pairs) (A new : List Work) (l r a b c d : Mono) → l ≡ Fun a b → r ≡ Fun c d → new ≡ A ++ Equation b d ∷ Equation a c ∷ [] → work_load S new < work_load S (A ++ Equation l r ∷ [])
+pub functions_lighter : (S : Pairs) (A new : List Task) (l r a b c d : Mono) → l ≡ Fun a b → r ≡ Fun c d → new ≡ A ++ Equation b d ∷ Equation a c ∷ [] → work_load S new < work_load S (A ++ Equation l r ∷ [])
 functions_lighter S A new l r a b c d e f is =
     let less = lighter_functions S A a b c d in
     let lighter : work_load S new ≡ work_load S (A ++ Equation b d ∷ Equation a c ∷ []) = ap (work_load S) is in
@@ -254,8 +246,50 @@ functions_lighter S A new l r a b c d e f is =
     below m n p q h k j = omega arith
 
 -- what waited is settled, in the step that finds it so
-pub settles_goes : (es : Equations) (S : Pairs) (A : List Work) (D new : Pairs) (item : Work) (x : ℕ) (o : Mono) → item ≡ Settled x o → new ≡ D ++ (x, o) ∷ [] → Keeps es S (A ++ item ∷ []) D → Keeps es S A new
-settles_goes es S A D new item x o e is k = subst (Keeps es S A) (sym is) (keeps_marked es S A D x o (subst (λ w. Keeps es S (A ++ w ∷ []) D) e k))
+unifies_put : (by : ℕ → Mono) (x y : ℕ) (E : List (ℕ × ℕ)) → Unifies by (halves (marks E)) → replaced by (Var x) ≡ replaced by (Var y) → Unifies by (halves (marks (put x y E)))
+unifies_put by x y [] u e = (e, tt)
+unifies_put by x y (p ∷ E) u e = by_test (eqb_tells x p.0) (unifies_put by x y E u.1 e)
+  where
+    by_test : ((eqb x p.0 ≡ true) × (x ≡ p.0)) ⊎ ((eqb x p.0 ≡ false) × (x ≢ p.0)) → Unifies by (halves (marks (put x y E))) → Unifies by (halves (marks (put x y (p ∷ E))))
+    by_test (inl k) go =
+        subst (λ b. Unifies by (halves (marks (cond b ((p.0, y) ∷ E) (p ∷ put x y E))))) (sym k.0) (subst (λ n. replaced by (Var n) ≡ replaced by (Var y)) k.1 e, u.1)
+    by_test (inr k) go = subst (λ b. Unifies by (halves (marks (cond b ((p.0, y) ∷ E) (p ∷ put x y E))))) (sym k.0) (u.0, go)
 
-pub settles_lighter : (S : Pairs) (A : List Work) (item : Work) (x : ℕ) (o : Mono) → item ≡ Settled x o → work_load S A < work_load S (A ++ item ∷ [])
+pub settles_goes : (es : Equations) (S : Pairs) (A : List Task) (D new : List (ℕ × ℕ)) (item : Task) (x y : ℕ) → item ≡ Settled x (Var y) → new ≡ put x y D → Keeps es S (A ++ item ∷ []) (marks D) → Keeps es S A (marks new)
+settles_goes es S A D new item x y e is k =
+    subst (λ E. Keeps es S A (marks E)) (sym is)
+    (keeps_marked es S A (marks D) x (Var y) (marks (put x y D)) (λ by u h. unifies_put by x y D u h) (subst (λ w. Keeps es S (A ++ w ∷ []) (marks D)) e k))
+
+pub settles_lighter : (S : Pairs) (A : List Task) (item : Task) (x : ℕ) (o : Mono) → item ≡ Settled x o → work_load S A < work_load S (A ++ item ∷ [])
 settles_lighter S A item x o e = subst (λ w. work_load S A < work_load S (A ++ w ∷ [])) (sym e) (lighter_settled S A x o)
+
+-- types that clash, as a refusal shows them
+pub mismatch_goes : (es : Equations) (S : Pairs) (A : List Task) (D : Pairs) (l r : Mono) (e : UnifyError) → IsMismatch l r e → Clashes es l r → Goes es S A D (Err e)
+mismatch_goes es S A D l r (Mismatch m n) h k = subst (λ v. Clashes es v n) (sym h.0) (subst (λ v. Clashes es l v) (sym h.1) k)
+mismatch_goes es S A D l r (Occurs x t) h k = absurd h
+mismatch_goes es S A D l r (Memory m) h k = tt
+
+pub mismatch_splits : (e f : Entity) (ts us : List Mono) (old new : List Task) (l r : Mono) (error : UnifyError) → IsMismatch l r error → l ≡ Con e ts → r ≡ Con f us → (head e (length ts) ≡ head f (length us) → ⊥)
+    → Splits e ts f us old new (Err error)
+mismatch_splits e f ts us old new l r (Mismatch m n) h p q differ = (h.0 ∙ p, h.1 ∙ q, differ)
+mismatch_splits e f ts us old new l r (Occurs x t) h p q differ = absurd h
+mismatch_splits e f ts us old new l r (Memory m) h p q differ = tt
+
+pub named_clash : (es : Equations) (S : Pairs) (A : List Task) (D : Pairs) (l r m n : Mono) → l ≡ m → r ≡ n → Clashes es m n → Clashes es l r
+named_clash es S A D l r m n p q h = subst (λ v. Clashes es v r) (sym p) (subst (λ v. Clashes es m v) (sym q) h)
+
+-- of two variables without a type either may be bound
+pub keeps_as : (es : Equations) (S : Pairs) (A : List Task) (D : Pairs) (x y : ℕ) (o this : Mono) → o ≡ Var y → this ≡ Var x → Keeps es S (A ++ Equation (Var x) o ∷ []) D → Keeps es S (A ++ Equation (Var y) this ∷ []) D
+keeps_as es S A D x y o this h k kept =
+    subst (λ v. Keeps es S (A ++ Equation (Var y) v ∷ []) D) (sym k) (keeps_turned es S A D (Var x) (Var y) (subst (λ v. Keeps es S (A ++ Equation (Var x) v ∷ []) D) h kept))
+
+pub keeps_item : (es : Equations) (S : Pairs) (A : List Task) (D : Pairs) (i j : Task) → i ≡ j → Keeps es S (A ++ i ∷ []) D → Keeps es S (A ++ j ∷ []) D
+keeps_item es S A D i j e k = subst (λ (t : Task). Keeps es S (A ++ t ∷ []) D) e k
+
+pub lighter_item : {X E : Type 0} (r : Result (Option X) E) (S : Pairs) (A new : List Task) (i j : Task) → i ≡ j
+    → IfOk r (λ b. b ≡ None → work_load S new < work_load S (A ++ j ∷ [])) → IfOk r (λ b. b ≡ None → work_load S new < work_load S (A ++ i ∷ []))
+lighter_item r S A new i j e h = lighter_than r (work_load S new) _ _ (ap (λ (t : Task). work_load S (A ++ t ∷ [])) (sym e)) h
+
+pub load_as : (S : Pairs) (A : List Task) (x y : ℕ) (o this : Mono) → o ≡ Var y → this ≡ Var x → work_load S (A ++ Equation (Var y) this ∷ []) ≡ work_load S (A ++ Equation (Var x) o ∷ [])
+load_as S A x y o this h k =
+    ap (λ (v : Mono). work_load S (A ++ Equation (Var y) v ∷ [])) k ∙ turned_load S A (Var y) (Var x) ∙ sym (ap (λ (v : Mono). work_load S (A ++ Equation (Var x) v ∷ [])) h)

@@ -1,10 +1,12 @@
 pub mod Binding
 pub mod Finding
 pub mod Keeping
+pub mod Leading
 pub mod Lists
 pub mod Loads
 pub mod Meaning
 pub mod Relates
+pub mod Resolving
 pub mod Solving
 pub mod Unifying
 pub mod Values

@@ -1,9 +1,14 @@
 -- Elements of lists, and the first pair of a variable.
-use Rattle.std.proofs.Common.{◌≡◌, ◌≢◌, ◌⊎◌, ◌<◌, suc, zero, length, get_or, arith, ℕ, Bool, true, false, cond, eqb, nat_eq, List, [], ◌∷◌, ◌++◌, map, Some, None, Result, Ok, Err, OnOk, IfOk, MatchResult, is_ok, refl, sym, ap, ◌∙◌, inl, inr, subst}
+use Rattle.std.proofs.Common.{◌≡◌, ◌≢◌, ◌⊎◌, ◌<◌, suc, zero, length, take, drop, reverse, get_or, slice_get, drop-cons, ◌+◌, arith, ℕ, Bool, true, false, cond, eqb, nat_eq, Bor, Option, List, [], ◌∷◌, ◌++◌, map, Some, None, Result, Ok, Err, OnOk, IfOk, MatchResult, is_ok, refl, sym, ap, ◌∙◌, inl, inr, subst, append_assoc}
 use Rattle.std.specs.List.{AllByRecursion as Each, IsDistinct}
+use Rattle.std.proofs.lemmas.List.{map-append, take-append-drop, reverse-append}
 use Rattle.std.proofs.lemmas.Bool.{eq-eqb, false≢true}
 use Rattle.std.proofs.lemmas.Bool.Decides.{eqb_tells}
+use Rattle.std.specs.Map.{lookup}
+use Rattle.indexmap.specs.IndexMap.{insert_entry}
 use Rattle.hr_type.specs.declared.mono.Mono.{Mono}
+use Rattle.hr_type.specs.declared.mono.Mono.TheVariants.{Var}
+use Rattle.hr_unify.specs.Tasks.{marks, seen_pairs}
 use Rattle.hr_type.specs.Types.{first_for}
 use Rattle.hr_unify.specs.Unifiers.{IsOneOf, Pairs}
 use Rattle.hr_unify.specs.Weights.{update}
@@ -135,3 +140,122 @@ ok_part {Y = Y} {F = F} (Err m) q y P e k h = absurd (false≢true (sym e ∙ ap
 pub ok_value : {X E F : Type 0} (r : Result X E) (q : Result X F) (x : X) (P : X → Type 0) (Q : E → Type 0) → MatchResult r (λ y. q ≡ Ok y) Q → is_ok q ≡ is_ok r → q ≡ Ok x → IfOk r P → P x
 ok_value {X = X} {F = F} (Ok y) q x P Q cases e k h = let both : ◌≡◌ {A = Result X F} (Ok y) (Ok x) = sym cases ∙ k in let equal : y ≡ x = cc in subst P equal h
 ok_value {X = X} {F = F} (Err m) q x P Q cases e k h = absurd (false≢true (sym e ∙ ap (is_ok {T = X} {E = F}) k))
+
+-- what is found by a variable, in two lists of pairs and by its test
+pub first_front : (n : ℕ) (t : Mono) (ps qs : Pairs) → first_for n ps ≡ Some t → first_for n (ps ++ qs) ≡ Some t
+first_front n t [] qs e = absurd (cc)
+first_front n t (p ∷ ps) qs e = by_test (eqb_tells p.0 n) (first_front n t ps qs)
+  where
+    by_test : ((eqb p.0 n ≡ true) × (p.0 ≡ n)) ⊎ ((eqb p.0 n ≡ false) × (p.0 ≢ n)) → (first_for n ps ≡ Some t → first_for n (ps ++ qs) ≡ Some t) → first_for n (p ∷ (ps ++ qs)) ≡ Some t
+    by_test (inl y) go = ap (λ b. cond b (Some p.1) (first_for n (ps ++ qs))) y.0 ∙ sym (ap (λ b. cond b (Some p.1) (first_for n ps)) y.0) ∙ e
+    by_test (inr y) go = ap (λ b. cond b (Some p.1) (first_for n (ps ++ qs))) y.0 ∙ go (sym (ap (λ b. cond b (Some p.1) (first_for n ps)) y.0) ∙ e)
+
+pub first_back : (n : ℕ) (ps qs : Pairs) → first_for n ps ≡ None → first_for n (ps ++ qs) ≡ first_for n qs
+first_back n [] qs e = refl
+first_back n (p ∷ ps) qs e = by_test (eqb_tells p.0 n) (first_back n ps qs)
+  where
+    by_test : ((eqb p.0 n ≡ true) × (p.0 ≡ n)) ⊎ ((eqb p.0 n ≡ false) × (p.0 ≢ n)) → (first_for n ps ≡ None → first_for n (ps ++ qs) ≡ first_for n qs) → first_for n (p ∷ (ps ++ qs)) ≡ first_for n qs
+    by_test (inl y) go = let q : Some p.1 ≡ None = sym (ap (λ b. cond b (Some p.1) (first_for n ps)) y.0) ∙ e in absurd (cc)
+    by_test (inr y) go = ap (λ b. cond b (Some p.1) (first_for n (ps ++ qs))) y.0 ∙ go (sym (ap (λ b. cond b (Some p.1) (first_for n ps)) y.0) ∙ e)
+
+pub turned_test : (m n : ℕ) → eqb m n ≡ eqb n m
+turned_test m n = by_tests (eqb_tells m n) (eqb_tells n m)
+  where
+    by_tests : ((eqb m n ≡ true) × (m ≡ n)) ⊎ ((eqb m n ≡ false) × (m ≢ n)) → ((eqb n m ≡ true) × (n ≡ m)) ⊎ ((eqb n m ≡ false) × (n ≢ m)) → eqb m n ≡ eqb n m
+    by_tests (inl a) (inl b) = a.0 ∙ sym b.0
+    by_tests (inl a) (inr b) = absurd (b.1 (sym a.1))
+    by_tests (inr a) (inl b) = absurd (a.1 (sym b.1))
+    by_tests (inr a) (inr b) = a.0 ∙ sym b.0
+
+abbrev pub plain_value : Option (Bor Mono) → Option Mono
+plain_value None = None
+plain_value (Some t) = Some t.now
+
+pub seen_found : (n : ℕ) (ps : List (ℕ × Bor Mono)) → first_for n (seen_pairs ps) ≡ plain_value (lookup (eqb n) ps)
+seen_found n [] = refl
+seen_found n (p ∷ ps) = by_test (eqb n p.0) refl (seen_found n ps)
+  where
+    by_test : (b : Bool) → eqb n p.0 ≡ b → first_for n (seen_pairs ps) ≡ plain_value (lookup (eqb n) ps) → first_for n (seen_pairs (p ∷ ps)) ≡ plain_value (lookup (eqb n) (p ∷ ps))
+    by_test true k go =
+        ap (λ b. cond b (Some p.1.now) (first_for n (seen_pairs ps))) (turned_test p.0 n ∙ k) ∙ sym (ap (λ b. plain_value (cond b (Some p.1) (lookup (eqb n) ps))) k)
+    by_test false k go =
+        ap (λ b. cond b (Some p.1.now) (first_for n (seen_pairs ps))) (turned_test p.0 n ∙ k) ∙ go ∙ sym (ap (λ b. plain_value (cond b (Some p.1) (lookup (eqb n) ps))) k)
+
+pub seen_some : (n : ℕ) (ps : List (ℕ × Bor Mono)) (t : Bor Mono) → lookup (eqb n) ps ≡ Some t → first_for n (seen_pairs ps) ≡ Some t.now
+seen_some n ps t e = seen_found n ps ∙ ap plain_value e
+
+pub seen_none : (n : ℕ) (ps : List (ℕ × Bor Mono)) → lookup (eqb n) ps ≡ None → first_for n (seen_pairs ps) ≡ None
+seen_none n ps e = seen_found n ps ∙ ap plain_value e
+
+pub unseen : (n : ℕ) (ps : List (ℕ × Bor Mono)) → first_for n (seen_pairs ps) ≡ None → lookup (eqb n) ps ≡ None
+unseen n ps e = by_value (lookup (eqb n) ps) refl
+  where
+    by_value : (o : Option (Bor Mono)) → lookup (eqb n) ps ≡ o → o ≡ None
+    by_value None k = refl
+    by_value (Some t) k = let q : Some t.now ≡ None = sym (seen_found n ps ∙ ap plain_value k) ∙ e in absurd (cc)
+
+pub put_new : {V : Type 0} (n : ℕ) (v : V) (ps : List (ℕ × V)) → lookup (eqb n) ps ≡ None → insert_entry eqb ps n v ≡ ps ++ (n, v) ∷ []
+put_new n v [] e = refl
+put_new n v (p ∷ ps) e = by_test (eqb n p.0) refl (put_new n v ps)
+  where
+    by_test : (b : Bool) → eqb n p.0 ≡ b → (lookup (eqb n) ps ≡ None → insert_entry eqb ps n v ≡ ps ++ (n, v) ∷ []) → insert_entry eqb (p ∷ ps) n v ≡ p ∷ (ps ++ (n, v) ∷ [])
+    by_test true k go = let q : Some p.1 ≡ None = sym (ap (λ b. cond b (Some p.1) (lookup (eqb n) ps)) k) ∙ e in absurd (cc)
+    by_test false k go = ap (λ b. cond b ((p.0, v) ∷ ps) (p ∷ insert_entry eqb ps n v)) k ∙ ap (λ xs. p ∷ xs) (go (sym (ap (λ b. cond b (Some p.1) (lookup (eqb n) ps)) k) ∙ e))
+
+pub marked_one : (x y : ℕ) (ps : List (ℕ × ℕ)) → lookup (eqb x) ps ≡ Some y → IsOneOf {X = ℕ × Mono} (x, Var y) (marks ps)
+marked_one x y [] e = absurd (cc)
+marked_one x y (p ∷ ps) e = by_test (eqb_tells x p.0) (marked_one x y ps)
+  where
+    by_test : ((eqb x p.0 ≡ true) × (x ≡ p.0)) ⊎ ((eqb x p.0 ≡ false) × (x ≢ p.0)) → (lookup (eqb x) ps ≡ Some y → IsOneOf {X = ℕ × Mono} (x, Var y) (marks ps)) → IsOneOf {X = ℕ × Mono} (x, Var y) (marks (p ∷ ps))
+    by_test (inl k) go = let q : Some p.1 ≡ Some y = sym (ap (λ b. cond b (Some p.1) (lookup (eqb x) ps)) k.0) ∙ e in let same : p.1 ≡ y = cc in inl (λ i. (k.1 i, Var (sym same i)))
+    by_test (inr k) go = inr (go (sym (ap (λ b. cond b (Some p.1) (lookup (eqb x) ps)) k.0) ∙ e))
+
+-- one more pair known
+pub made_known : (given : Pairs) (old new : List (ℕ × Bor Mono)) (x : ℕ) (t : Bor Mono) → new ≡ insert_entry eqb old x t → first_for x (given ++ seen_pairs old) ≡ None → given ++ seen_pairs new ≡ (given ++ seen_pairs old) ++ (x, t.now) ∷ []
+made_known given old new x t h none =
+    ap (λ ps. given ++ seen_pairs ps) (h ∙ put_new x t old (unseen x old (behind given none))) ∙ ap (λ ps. given ++ ps) (map-append (λ (p : ℕ × Bor Mono). (p.0, p.1.now)) old ((x, t) ∷ []))
+    ∙ sym (append_assoc given (seen_pairs old) ((x, t.now) ∷ []))
+  where
+    behind : (ps : Pairs) → first_for x (ps ++ seen_pairs old) ≡ None → first_for x (seen_pairs old) ≡ None
+    behind [] e = e
+    behind (p ∷ ps) e = behind ps (none_parts x p (ps ++ seen_pairs old) e).1
+
+-- of pairs with different variables the later ones have no type among the earlier ones
+pub distinct_behind : (v : ℕ) (t : Mono) (ps qs : Pairs) → IsDistinct nat_eq (map (λ p. p.0) (ps ++ (v, t) ∷ qs)) → first_for v ps ≡ None
+unfolding IsDistinct
+distinct_behind v t [] qs d = refl
+distinct_behind v t (p ∷ ps) qs d = none_made v p ps (differ (later ps d.0)) (distinct_behind v t ps qs d.1)
+  where
+    later : (rs : Pairs) → Each (λ z. nat_eq p.0 z ≡ false) (map (λ q. q.0) (rs ++ (v, t) ∷ qs)) → nat_eq p.0 v ≡ false
+    later [] h = h.0
+    later (r ∷ rs) h = later rs h.1
+
+    differ : nat_eq p.0 v ≡ false → v ≡ p.0 → ⊥
+    differ h e = false≢true (sym h ∙ eq-eqb p.0 v (sym e))
+
+pub distinct_front : (ps : Pairs) (i : ℕ) (p : ℕ × Mono) → i < length ps → p ≡ get_or ps i p → IsDistinct nat_eq (map (λ q. q.0) ps) → first_for p.0 (take i ps) ≡ None
+distinct_front ps i p within is d =
+    distinct_behind p.0 p.1 (take i ps) (drop (suc i) ps) (subst (λ qs. IsDistinct nat_eq (map (λ (q : ℕ × Mono). q.0) qs)) (sym (take-append-drop i ps) ∙ ap (λ qs. take i ps ++ qs) cut) d)
+  where
+    cut : drop i ps ≡ (p.0, p.1) ∷ drop (suc i) ps
+    cut = rw (drop-cons ps i p within) (ap (λ q. q ∷ drop (suc i) ps) (sym is))
+
+-- the last of a stack of pairs, added behind those that are there
+pub reversed_more : {X : Type 0} (xs ys : List X) (x : X) → xs ≡ ys ++ x ∷ [] → reverse xs ≡ x ∷ reverse ys
+reversed_more xs ys x h = ap reverse h ∙ reverse-append ys (x ∷ [])
+
+pub added_apart : (old done all fresh rest : Pairs) (v : ℕ) (t : Mono) → fresh ≡ rest ++ (v, t) ∷ [] → done ++ reverse fresh ≡ old ++ reverse all → IsDistinct nat_eq (map (λ p. p.0) (old ++ reverse all)) → first_for v done ≡ None
+added_apart old done all fresh rest v t h e d =
+    distinct_behind v t done (reverse rest) (subst (λ qs. IsDistinct nat_eq (map (λ (q : ℕ × Mono). q.0) qs)) (sym e ∙ ap (λ qs. done ++ qs) (reversed_more fresh rest (v, t) h)) d)
+
+-- the pairs that were found copied, from the last on
+dropped_get : {X : Type 0} (xs : List X) (i : ℕ) (x : X) → Some x ≡ slice_get xs i → drop i xs ≡ x ∷ drop (suc i) xs
+dropped_get [] i x e = absurd (let k : Some x ≡ None = e in cc)
+dropped_get (y ∷ ys) zero x e = let k : y ≡ x = cc in ap (λ z. z ∷ ys) k
+dropped_get (y ∷ ys) (suc i) x e = dropped_get ys i x e
+
+pub copied_more : (es : List (ℕ × Bor Mono)) (i n : ℕ) (q : ℕ × Bor Mono) (found more : Pairs) (u : Mono) → n ≡ i + 1 → Some q ≡ slice_get es i → u ≡ q.1.now → more ≡ found ++ (q.0, u) ∷ [] → reverse found ≡ seen_pairs (drop n es)
+    → reverse more ≡ seen_pairs (drop i es)
+copied_more es i n q found more u next e same is h =
+    let after : n ≡ suc i = omega arith in
+    reversed_more more found (q.0, u) is ∙ (λ j. (q.0, same j) ∷ (h ∙ ap (λ m. seen_pairs (drop m es)) after) j) ∙ sym (ap seen_pairs (dropped_get es i q e))

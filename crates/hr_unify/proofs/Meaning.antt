@@ -14,7 +14,7 @@ use Rattle.hr_unify.proofs.Solving.{solve_free, solve_bound}
 pub meaning : Pairs → ℕ → Mono
 meaning ps = solve Mono Con Fun (λ t. t) ps Var
 
-is_meaning : (ps : Pairs) → IsGood ps → IsMeaning ps (meaning ps)
+pub is_meaning : (ps : Pairs) → IsGood ps → IsMeaning ps (meaning ps)
 unfolding meaning
 is_meaning ps good = record {
   bound = each_from (λ p. solve Mono Con Fun (λ t. t) ps Var p.0 ≡ replaced (solve Mono Con Fun (λ t. t) ps Var) p.1) ps (λ p one. solve_bound Mono Con Fun (λ t. t) ps Var p.0 p.1 good one);

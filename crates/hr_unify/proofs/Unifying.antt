@@ -6,15 +6,15 @@ use Rattle.std.proofs.lemmas.Bool.Decides.{eqb_tells}
 use Rattle.hr_type.specs.declared.mono.Mono.{Mono}
 use Rattle.hr_type.specs.declared.mono.Mono.TheVariants.{Var, Con, Fun}
 use Rattle.hr_type.specs.Types.{replaced, variables, first_for}
-use Rattle.hr_type.proofs.Terms.{every_type}
-use Rattle.hr_unify.specs.declared.work.Work.{Work}
-use Rattle.hr_unify.specs.declared.work.Work.TheVariants.{Equation}
+use Rattle.hr_type.proofs.Terms.{every_type, var-var}
+use Rattle.hr_unify.specs.Tasks.{Task, Equation}
 use Rattle.hr_unify.specs.declared.solve.UnifyError.{UnifyError}
 use Rattle.hr_unify.specs.declared.solve.UnifyError.TheVariants.{Mismatch, Occurs, Memory}
-use Rattle.hr_unify.specs.Unifiers.{IsOneOf, Pairs, Equations, halves, problem, IsGood, Solves}
+use Rattle.hr_unify.specs.Unifiers.{IsOneOf, Pairs, Equations, halves, problem, Unifies, HasUnifiersOf, SpeaksOf, IsGood, Solved, Solves}
 use Rattle.hr_unify.specs.Refusals.{Related, given, same, turned, chained, argument, domain, range, applied, from, to, head_of, no_head, arrow_head, head, HoldsItself, Shows}
-use Rattle.hr_unify.specs.Working.{names, IsKnown, Follows, PairFollows, Keeps, Avoids, Binds, Goes, MayBind}
-use Rattle.hr_unify.proofs.Lists.{each_of, each_from, each_map, each_right, one_left, one_right}
+use Rattle.hr_unify.specs.Unifiers.{names}
+use Rattle.hr_unify.specs.Working.{IsKnown, Follows, PairFollows, Keeps, Avoids, Binds, Goes, MayBind}
+use Rattle.hr_unify.proofs.Lists.{each_of, each_from, each_map, each_weaker, each_right, one_left, one_right}
 use Rattle.hr_unify.proofs.Values.{variables_var}
 use Rattle.hr_unify.proofs.Finding.{half_of, avoids_free}
 use Rattle.hr_unify.proofs.Keeping.{keeps_bound}
@@ -121,18 +121,20 @@ half_follows es (p ∷ ps) h l r (inl e) = subst (λ (q : Mono × Mono). Related
 half_follows es (p ∷ ps) h l r (inr one) = half_follows es ps h.1 l r one
 
 module _ (es : Equations) (ps : Pairs) where
-  pub keeps_solves : (D : Pairs) → IsGood ps → Keeps es ps [] D → Solves ps es
-  keeps_solves D good k =
-      solves ps es good (λ by u. k.sound by u tt)
-      (λ by u. each_map (λ e. replaced by e.0 ≡ replaced by e.1) (λ p. (Var p.0, p.1)) ps
-      (each_from (λ p. replaced by (Var p.0) ≡ replaced by p.1) ps (λ p one. related_equal es by u (Var p.0) p.1 (each_of (PairFollows es) ps p k.pairs_follow one).0)))
+  pub keeps_complete : (D : Pairs) → Keeps es ps [] D → (by : ℕ → Mono) → Unifies by es → Unifies by (halves ps)
+  keeps_complete D k by u =
+      each_map (λ e. replaced by e.0 ≡ replaced by e.1) (λ p. (Var p.0, p.1)) ps
+      (each_from (λ p. replaced by (Var p.0) ≡ replaced by p.1) ps (λ p one. related_equal es by u (Var p.0) p.1 (each_of (PairFollows es) ps p k.pairs_follow one).0))
 
-  pub goes_shows : (work : List Work) (D : Pairs) (e : UnifyError) → Goes es ps work D (Err e) → Shows es e
+  pub keeps_solves : (D : Pairs) → IsGood ps → Keeps es ps [] D → Solves ps es
+  keeps_solves D good k = solves ps es good (λ by u. k.sound by u tt) (keeps_complete D k)
+
+  pub goes_shows : (work : List Task) (D : Pairs) (e : UnifyError) → Goes es ps work D (Err e) → Shows es e
   goes_shows work D (Mismatch l r) h = (h, clash_refuses es l r h)
   goes_shows work D (Occurs x t) h = absurd h
   goes_shows work D (Memory m) h = tt
 
-  pub bind_shows : (work : List Work) (D : Pairs) (x : ℕ) (t : Mono) (e : UnifyError) → Keeps es ps (work ++ Equation (Var x) t ∷ []) D → MayBind ps x t (Err e) → Shows es e
+  pub bind_shows : (work : List Task) (D : Pairs) (x : ℕ) (t : Mono) (e : UnifyError) → Keeps es ps (work ++ Equation (Var x) t ∷ []) D → MayBind ps x t (Err e) → Shows es e
   bind_shows work D x t (Mismatch l r) k h = absurd h
   bind_shows work D x t (Memory m) k h = tt
   bind_shows work D x t (Occurs y found) k h =
@@ -142,7 +144,7 @@ module _ (es : Equations) (ps : Pairs) where
       let named : HoldsItself es y found = subst (λ z. HoldsItself es z found) (sym h.0) shown in
       (named, occurs_refuses es y found named)
 
-  pub binding_falls : (work : List Work) (D : Pairs) (x : ℕ) (t : Mono) → Keeps es ps (work ++ Equation (Var x) t ∷ []) D → first_for x ps ≡ None → unbound (ps ++ (x, t) ∷ []) (names es) < unbound ps (names es)
+  pub binding_falls : (work : List Task) (D : Pairs) (x : ℕ) (t : Mono) → Keeps es ps (work ++ Equation (Var x) t ∷ []) D → first_for x ps ≡ None → unbound (ps ++ (x, t) ∷ []) (names es) < unbound ps (names es)
   binding_falls work D x t k free =
       let follows = (each_right (Follows es) work (Equation (Var x) t ∷ []) k.work_follows).0 in
       unbound_falls ps x t (names es) free (subst (Each (λ n. IsOneOf n (names es))) (variables_var x) follows.1).0
@@ -159,24 +161,46 @@ loose_avoids ps x =
 pub extends_good : (ps qs new : Pairs) (x : ℕ) (t : Mono) → IsGood ps → Binds ps x t → qs ≡ ps → Each (Avoids qs x) (variables t) → new ≡ ps ++ (x, t) ∷ [] → IsGood new
 extends_good ps qs new x t good binds equal avoids is = subst IsGood (sym is) (good_bound ps x t good binds.free (subst (λ s. Each (Avoids s x) (variables t)) equal avoids))
 
-pub starts : (pairs qs : Pairs) (left right : Mono) (work : List Work) (settled : Pairs) → qs ≡ pairs → work ≡ Equation left right ∷ [] → settled ≡ [] → Keeps (problem pairs left right) qs work settled
+-- pairs that keep the problem with no work left solve it
+pub solved_all : (es : Equations) (S old fresh : Pairs) (work : List Task) (D : Pairs) → S ≡ old ++ fresh → IsGood S → work ≡ [] → Keeps es S work D → Solved old fresh es
+solved_all es S old fresh work D is good none kept =
+    subst (λ ps. Solves ps es × HasUnifiersOf ps es × SpeaksOf ps es → Solved old fresh es) (sym is) (λ h. record { solves = h.0; exact = h.1; variables = h.2 })
+    (keeps_solves es S D good k, (λ by. ((λ u. k.sound by u tt), (λ u. keeps_complete es S D k by u))), each_weaker (PairFollows es) (λ p. IsKnown es p.1) S (λ p f. f.1) k.pairs_follow)
+  where
+    k : Keeps es S [] D
+    k = subst (λ w. Keeps es S w D) none kept
+
+pub starts : (pairs qs : Pairs) (left right : Mono) (work : List Task) (settled : Pairs) → qs ≡ pairs → work ≡ Equation left right ∷ [] → settled ≡ [] → Keeps (problem pairs left right) qs work settled
 starts pairs qs left right work settled e f g =
     subst (λ s. Keeps (problem pairs left right) qs work s) (sym g)
     (subst (λ w. Keeps (problem pairs left right) qs w []) (sym f) (subst (λ ps. Keeps (problem pairs left right) ps (Equation left right ∷ []) []) (sym e) (keeps_start pairs left right)))
 
 -- what doing the work answers, at the pairs themselves
-pub goes_at : (es : Equations) (S T : Pairs) (work later : List Work) (D E : Pairs) (r : Result (Option (ℕ × Mono)) UnifyError) → S ≡ T → (Keeps es S work D → Goes es S later E r) → Keeps es T work D → Goes es T later E r
+pub goes_at : (es : Equations) (S T : Pairs) (work later : List Task) (D E : Pairs) (r : Result (Option (ℕ × Mono)) UnifyError) → S ≡ T → (Keeps es S work D → Goes es S later E r) → Keeps es T work D → Goes es T later E r
 goes_at es S T work later D E r e go k = subst (λ ps. Goes es ps later E r) e (go (subst (λ ps. Keeps es ps work D) (sym e) k))
 
-pub goes_as : (es : Equations) (S : Pairs) (work : List Work) (D : Pairs) (o p : Option (ℕ × Mono)) → o ≡ p → Goes es S work D (Ok o) → Goes es S work D (Ok p)
+pub goes_as : (es : Equations) (S : Pairs) (work : List Task) (D : Pairs) (o p : Option (ℕ × Mono)) → o ≡ p → Goes es S work D (Ok o) → Goes es S work D (Ok p)
 goes_as es S work D o p e h = subst (λ q. Goes es S work D (Ok q)) e h
 
-pub solved_at : (es : Equations) (S : Pairs) (work : List Work) (D : Pairs) → IsGood S → work ≡ [] → Keeps es S work D → Solves S es
+pub solved_at : (es : Equations) (S : Pairs) (work : List Task) (D : Pairs) → IsGood S → work ≡ [] → Keeps es S work D → Solves S es
 solved_at es S work D good e k = keeps_solves es S D good (subst (λ w. Keeps es S w D) e k)
 
 -- a binding made: the work goes on with one more pair, and one variable less to bind
-pub bound_at : (es : Equations) (S new : Pairs) (work : List Work) (D : Pairs) (b : ℕ × Mono) → new ≡ S ++ b ∷ [] → Keeps es S (work ++ Equation (Var b.0) b.1 ∷ []) D → Keeps es new work D
+pub bound_at : (es : Equations) (S new : Pairs) (work : List Task) (D : Pairs) (b : ℕ × Mono) → new ≡ S ++ b ∷ [] → Keeps es S (work ++ Equation (Var b.0) b.1 ∷ []) D → Keeps es new work D
 bound_at es S new work D b e k = subst (λ ps. Keeps es ps work D) (sym e) (keeps_bound es S work D b.0 b.1 k)
 
-pub falls_at : (es : Equations) (S new : Pairs) (work : List Work) (D : Pairs) (b : ℕ × Mono) → new ≡ S ++ b ∷ [] → Keeps es S (work ++ Equation (Var b.0) b.1 ∷ []) D → first_for b.0 S ≡ None → unbound new (names es) < unbound S (names es)
+pub falls_at : (es : Equations) (S new : Pairs) (work : List Task) (D : Pairs) (b : ℕ × Mono) → new ≡ S ++ b ∷ [] → Keeps es S (work ++ Equation (Var b.0) b.1 ∷ []) D → first_for b.0 S ≡ None → unbound new (names es) < unbound S (names es)
 falls_at es S new work D b e k free = subst (λ ps. unbound ps (names es) < unbound S (names es)) (sym e) (binding_falls es S work D b.0 b.1 k free)
+
+-- the same of pairs that were given in another form
+pub solved_as : (old known pairs fresh : Pairs) (left right : Mono) → known ≡ old → pairs ≡ old ++ fresh → Solved known fresh (problem known left right) → Solves pairs (problem old left right)
+solved_as old known pairs fresh left right equal is h =
+    subst (λ ps. Solves ps (problem old left right)) (sym is) (subst (λ ks. Solves (ks ++ fresh) (problem ks left right)) equal h.solves)
+
+-- of two variables without a type either may be bound to the other one
+pub binds_variable : (ps : Pairs) (x y : ℕ) (this : Mono) → this ≡ Var x → first_for x ps ≡ None → first_for y ps ≡ None → x < y → Binds ps y this
+binds_variable ps x y this is free_x free_y less = record {
+  free = free_y;
+  other = λ e. let q : x ≡ y = var-var x y (sym is ∙ e) in absurd (omega arith);
+  loose = λ n e. let q : x ≡ n = var-var x n (sym is ∙ e) in ap (λ m. first_for m ps) (sym q) ∙ free_x;
+}

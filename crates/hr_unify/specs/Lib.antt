@@ -1,4 +1,5 @@
 pub mod Refusals
+pub mod Tasks
 pub mod Unifiers
 pub mod Weights
 pub mod Working

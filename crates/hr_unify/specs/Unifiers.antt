@@ -1,6 +1,6 @@
 -- Unifiers of equations between types, and substitutions kept as pairs of a variable and its type
 -- (Robinson 1965; Baader and Snyder, Unification Theory, sections 2.1 and 2.3).
-use Rattle.std.specs.Prelude.{◌≡◌, ◌⊎◌, ℕ, nat_eq, List, [], ◌∷◌, map, None}
+use Rattle.std.specs.Prelude.{◌≡◌, ◌⊎◌, ℕ, nat_eq, List, [], ◌∷◌, ◌++◌, map, None}
 use Rattle.std.specs.List.{AllByRecursion, IsDistinct}
 use Rattle.hr_type.specs.declared.mono.Mono.{Mono}
 use Rattle.hr_type.specs.declared.mono.Mono.TheVariants.{Var}
@@ -54,3 +54,22 @@ pub record IsMostGeneral (by : ℕ → Mono) (equations : Equations) : Type 0 wh
 pub record Solves (pairs : Pairs) (equations : Equations) : Type 0 where
   pub good : IsGood pairs
   pub means : (by : ℕ → Mono) × IsMeaning pairs by × IsMostGeneral by equations
+
+-- what unifies the pairs' halves is exactly what unifies the equations
+abbrev pub HasUnifiersOf : Pairs → Equations → Type 0
+HasUnifiersOf pairs equations = (by : ℕ → Mono) → (Unifies by (halves pairs) → Unifies by equations) × (Unifies by equations → Unifies by (halves pairs))
+
+-- the variables of equations
+abbrev pub names : Equations → List ℕ
+names [] = []
+names (e ∷ es) = variables e.0 ++ (variables e.1 ++ names es)
+
+-- the variables of the pairs' types are among those of the equations
+abbrev pub SpeaksOf : Pairs → Equations → Type 0
+SpeaksOf pairs equations = AllByRecursion (λ p. AllByRecursion (λ n. IsOneOf n (names equations)) (variables p.1)) pairs
+
+-- pairs behind those that are given solve the equations
+pub record Solved (given fresh : Pairs) (equations : Equations) : Type 0 where
+  pub solves : Solves (given ++ fresh) equations
+  pub exact : HasUnifiersOf (given ++ fresh) equations
+  pub variables : SpeaksOf (given ++ fresh) equations

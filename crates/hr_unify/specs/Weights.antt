@@ -3,8 +3,7 @@ use Rattle.std.specs.Prelude.{ℕ, suc, ◌+◌, List, [], ◌∷◌, ◌==◌, 
 use Rattle.hr_base.specs.declared.bind.Entity.{Entity}
 use Rattle.hr_type.specs.declared.mono.Mono.{Mono}
 use Rattle.hr_type.specs.Types.{value}
-use Rattle.hr_unify.specs.declared.work.Work.{Work}
-use Rattle.hr_unify.specs.declared.work.Work.TheVariants.{Equation, Settled}
+use Rattle.hr_unify.specs.Tasks.{Task, Equation, Settled}
 use Rattle.hr_unify.specs.Unifiers.{Pairs}
 
 -- a function with another value at one number
@@ -33,10 +32,10 @@ weight pairs = solve ℕ (λ _ ns. suc (total ns)) (λ m n. suc (m + n)) (λ n. 
 abbrev pub load : Pairs → Mono → ℕ
 load pairs = mass (weight pairs)
 
-abbrev pub item_load : Pairs → Work → ℕ
+abbrev pub item_load : Pairs → Task → ℕ
 item_load pairs (Equation l r) = load pairs l + load pairs r
 item_load pairs (Settled x r) = 1
 
-abbrev pub work_load : Pairs → List Work → ℕ
+abbrev pub work_load : Pairs → List Task → ℕ
 work_load pairs [] = 0
 work_load pairs (item ∷ items) = item_load pairs item + work_load pairs items

@@ -5,23 +5,17 @@ use Rattle.hr_base.specs.declared.bind.Entity.{Entity}
 use Rattle.hr_type.specs.declared.mono.Mono.{Mono}
 use Rattle.hr_type.specs.declared.mono.Mono.TheVariants.{Var, Con}
 use Rattle.hr_type.specs.Types.{replaced, variables, first_for}
-use Rattle.hr_unify.specs.declared.work.Work.{Work}
-use Rattle.hr_unify.specs.declared.work.Work.TheVariants.{Equation, Settled}
-use Rattle.hr_unify.specs.Unifiers.{Pairs, Equations, IsOneOf, Unifies, halves, Reaches, IsGood}
+use Rattle.hr_unify.specs.Tasks.{Task, Equation, Settled}
+use Rattle.hr_unify.specs.Unifiers.{Pairs, Equations, IsOneOf, Unifies, halves, names, Reaches, IsGood}
 use Rattle.hr_unify.specs.declared.solve.UnifyError.{UnifyError}
 use Rattle.hr_unify.specs.declared.solve.UnifyError.TheVariants.{Mismatch, Occurs, Memory}
 use Rattle.hr_unify.specs.Refusals.{Related, Clashes, head_of, no_head, head}
-
--- the variables of equations
-abbrev pub names : Equations → List ℕ
-names [] = []
-names (e ∷ es) = variables e.0 ++ (variables e.1 ++ names es)
 
 abbrev pub IsKnown : Equations → Mono → Type 0
 IsKnown es t = AllByRecursion (λ n. IsOneOf n (names es)) (variables t)
 
 -- an item of work follows from the equations, and speaks of their variables
-abbrev pub Follows : Equations → Work → Type 0
+abbrev pub Follows : Equations → Task → Type 0
 Follows es (Equation l r) = Related es l r × IsKnown es l × IsKnown es r
 Follows es (Settled x r) = Unit {0}
 
@@ -29,18 +23,18 @@ abbrev pub PairFollows : Equations → ℕ × Mono → Type 0
 PairFollows es p = Related es (Var p.0) p.1 × IsKnown es p.1
 
 -- a substitution makes both sides of an item equal
-abbrev pub Equals : (ℕ → Mono) → Work → Type 0
+abbrev pub Equals : (ℕ → Mono) → Task → Type 0
 Equals by (Equation l r) = replaced by l ≡ replaced by r
 Equals by (Settled x r) = Unit {0}
 
 -- an item that waits holds once all work above it is done
-abbrev pub Waits : Pairs → List Work → Type 0
+abbrev pub Waits : Pairs → List Task → Type 0
 Waits pairs [] = Unit {0}
 Waits pairs (Equation l r ∷ above) = Waits pairs above
 Waits pairs (Settled x r ∷ above) =
     ((by : ℕ → Mono) → Unifies by (halves pairs) → AllByRecursion (Equals by) above → replaced by (Var x) ≡ replaced by r) × Waits pairs above
 
-pub record Keeps (es : Equations) (pairs : Pairs) (work : List Work) (settled : Pairs) : Type 0 where
+pub record Keeps (es : Equations) (pairs : Pairs) (work : List Task) (settled : Pairs) : Type 0 where
   pub pairs_follow : AllByRecursion (PairFollows es) pairs
   pub work_follows : AllByRecursion (Follows es) work
   pub sound : (by : ℕ → Mono) → Unifies by (halves pairs) → AllByRecursion (Equals by) work → Unifies by es
@@ -77,7 +71,7 @@ pub record Binds (pairs : Pairs) (x : ℕ) (ty : Mono) : Type 0 where
   pub loose : (n : ℕ) → ty ≡ Var n → first_for n pairs ≡ None
 
 -- what a step answers: it keeps what is kept, stops at a variable to bind, or refuses
-abbrev pub Goes : Equations → Pairs → List Work → Pairs → Result (Option (ℕ × Mono)) UnifyError → Type 0
+abbrev pub Goes : Equations → Pairs → List Task → Pairs → Result (Option (ℕ × Mono)) UnifyError → Type 0
 Goes es pairs work settled (Ok None) = Keeps es pairs work settled
 Goes es pairs work settled (Ok (Some b)) = Keeps es pairs (work ++ Equation (Var b.0) b.1 ∷ []) settled × Binds pairs b.0 b.1
 Goes es pairs work settled (Err (Mismatch left right)) = Clashes es left right
@@ -92,17 +86,18 @@ MayBind pairs x ty (Err (Mismatch left right)) = ⊥
 MayBind pairs x ty (Err (Memory e)) = Unit {0}
 
 -- the type of a variable put in its place, unless its equation was settled before
-abbrev pub Opens : Pairs → ℕ → Mono → Mono → List Work → List Work → Type 0
-Opens settled x ty other old new = (IsOneOf {X = ℕ × Mono} (x, other) settled × (new ≡ old)) ⊎ (new ≡ old ++ Settled x other ∷ Equation ty other ∷ [])
+abbrev pub Opens : Pairs → ℕ → Mono → Mono → List Task → List Task → Type 0
+Opens settled x ty other old new =
+    (IsOneOf {X = ℕ × Mono} (x, other) settled × (new ≡ old)) ⊎ ((new ≡ old ++ Settled x other ∷ Equation ty other ∷ []) ⊎ (new ≡ old ++ Equation ty other ∷ []))
 
 -- the equations of arguments in turn, the first on top
-abbrev pub paired : List Mono → List Mono → List Work
+abbrev pub paired : List Mono → List Mono → List Task
 paired [] us = []
 paired (t ∷ ts) [] = []
 paired (t ∷ ts) (u ∷ us) = paired ts us ++ Equation t u ∷ []
 
 -- two types of constructors: their arguments in turn where the constructors and the numbers of arguments are equal
-abbrev pub Splits : Entity → List Mono → Entity → List Mono → List Work → List Work → Result (Option (ℕ × Mono)) UnifyError → Type 0
+abbrev pub Splits : Entity → List Mono → Entity → List Mono → List Task → List Task → Result (Option (ℕ × Mono)) UnifyError → Type 0
 Splits e ts f us old new (Ok None) = (e ≡ f) × (length ts ≡ length us) × (new ≡ old ++ paired ts us)
 Splits e ts f us old new (Ok (Some b)) = ⊥
 Splits e ts f us old new (Err (Mismatch left right)) = (left ≡ Con e ts) × (right ≡ Con f us) × (head e (length ts) ≡ head f (length us) → ⊥)
@@ -113,3 +108,27 @@ Splits e ts f us old new (Err (Memory m)) = Unit {0}
 abbrev pub Extends : Pairs → ℕ → Mono → Pairs → Result (Unit {0}) UnifyError → Type 0
 Extends old x ty new (Ok done) = (new ≡ old ++ (x, ty) ∷ []) × IsGood new
 Extends old x ty new (Err e) = MayBind old x ty (Err e)
+
+-- two types as a refusal shows them
+abbrev pub IsMismatch : Mono → Mono → UnifyError → Type 0
+IsMismatch left right (Mismatch l r) = (l ≡ left) × (r ≡ right)
+IsMismatch left right (Occurs x ty) = ⊥
+IsMismatch left right (Memory m) = Unit {0}
+
+-- the variables that were looked into
+abbrev pub keys : List (ℕ × ℕ) → List ℕ
+keys = map (λ p. p.0)
+
+-- a variable looked into: its type, where it has one, is to be looked into next
+abbrev pub Looks : Pairs → ℕ → List ℕ → List ℕ → List Mono → List Mono → Type 0
+Looks pairs x old new left later =
+    (IsOneOf x old × (new ≡ old) × (later ≡ left))
+    ⊎ (((v : ℕ) → (IsOneOf v new → (v ≡ x) ⊎ IsOneOf v old) × ((v ≡ x) ⊎ IsOneOf v old → IsOneOf v new))
+    × ((first_for x pairs ≡ None) × (later ≡ left) ⊎ ((t : Mono) × (first_for x pairs ≡ Some t) × (later ≡ left ++ t ∷ []))))
+
+-- a type that is no variable with a type, and a variable that has one
+abbrev pub IsLast : Pairs → Mono → Type 0
+IsLast pairs ty = (n : ℕ) → ty ≡ Var n → first_for n pairs ≡ None
+
+abbrev pub StandsFor : Pairs → Mono → Mono → Type 0
+StandsFor pairs ty its = (n : ℕ) × (ty ≡ Var n) × (first_for n pairs ≡ Some its)

@@ -2,7 +2,11 @@
 #![tactic(auto)]
 
 mod find;
+mod known;
+mod leads;
+mod resolve;
 mod solve;
+mod solver;
 mod split;
 mod step;
 #[cfg(test)]
@@ -11,4 +15,5 @@ mod unifier;
 mod work;
 
 pub use solve::{Subst, UnifyError};
+pub use solver::Solver;
 pub use unifier::unify;

@@ -4,6 +4,7 @@ ghost use Rattle.hr_unify.specs.Unifiers.{IsGood};
 use hr_base::Seq;
 use hr_type::Mono;
 use std::alloc::{AllocError, Global};
+use thiserror::Error;
 
 /// Pairs of a variable and its type.
 #[derive(Debug, Drop)]
@@ -26,11 +27,14 @@ impl Subst {
 }
 
 /// Why types have no unifier.
-#[derive(Debug, Drop)]
+#[derive(Debug, Drop, Error)]
 pub enum UnifyError {
     /// Two types that would have to be equal have different constructors or numbers of arguments.
+    #[error("two types have different constructors or numbers of arguments")]
     Mismatch { left: Mono, right: Mono },
     /// A variable would have to be equal to a type that has it inside.
+    #[error("variable {var} would be inside its own type")]
     Occurs { var: u32, ty: Mono },
+    #[error("out of memory")]
     Memory(AllocError),
 }

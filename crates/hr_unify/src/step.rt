@@ -1,34 +1,33 @@
-ghost use Rattle.std.specs.Prelude.{◌≡◌, ◌<◌, ◌++◌, ◌∷◌, [], IfOk, IsTrue, None, MatchResult, OnOk};
-ghost use Rattle.hr_type.specs.declared.mono.Mono.{Mono};
-ghost use Rattle.hr_type.specs.declared.mono.Mono.TheVariants.{Var};
-ghost use Rattle.hr_type.specs.Types.{first_for};
-ghost use Rattle.hr_unify.specs.declared.work.Work.TheVariants.{Equation};
-ghost use Rattle.hr_unify.specs.Unifiers.{Equations, IsGood, IsOneOf};
+ghost use Rattle.std.specs.Prelude.{◌≡◌, ◌<◌, ◌++◌, ◌∷◌, [], IfOk, None, OnOk};
+ghost use Rattle.hr_type.specs.declared.mono.Mono.TheVariants.{Con, Var};
+ghost use Rattle.hr_unify.specs.Tasks.{Equation, marks, pairs_of, plain, task_of, tasks};
+ghost use Rattle.hr_unify.specs.Unifiers.{Equations, IsGood};
 ghost use Rattle.hr_unify.specs.Weights.{work_load};
-ghost use Rattle.hr_unify.specs.Working.{Goes, Keeps, Opens, Splits};
+ghost use Rattle.hr_unify.specs.Working.{Goes, IsMismatch, Keeps, Opens, Splits};
 
 use crate::UnifyError;
+use crate::known::{Known, Marks, is_marked, known_type, mark};
 use crate::split::{split_arguments, split_function};
-use crate::work::Work;
+use crate::work::{Work, push_equation};
 use hr_base::Entity;
-use hr_type::{Mono, is_same_entity, is_variable, look_up};
-use sqlite_items::Items;
+use hr_items::Items;
+use hr_type::{Mono, is_same_entity, is_variable};
 use std::alloc::{AllocError, Global};
 
 /// Does the work until a variable is to be bound to a type, or none is left.
-pub fn next_binding(
+pub fn next_binding<'a>(
     alloc: Global,
-    pairs: &[(u32, Mono)],
-    work: &mut Vec<Work>,
-    settled: &mut Vec<(u32, Mono)>,
-) -> Result<Option<(u32, Mono)>, UnifyError>
-    requires { IsGood pairs.now }
-    ensures goes { (es : Equations) → Keeps es pairs.now work.old.items settled.old.items
-        → Goes es pairs.now work.new.items settled.new.items result }
-    ensures done { IfOk result (λ b. b ≡ None → work.new.items ≡ []) }
+    known: &Known<'a>,
+    work: &mut Vec<Work<'a>>,
+    settled: &mut Marks,
+) -> Result<Option<(u32, &'a Mono)>, UnifyError>
+    requires { IsGood (pairs_of known.now) }
+    ensures goes { (es : Equations) → Keeps es (pairs_of known.now) (tasks work.old.items) (marks settled.old.entries)
+        → Goes es (pairs_of known.now) (tasks work.new.items) (marks settled.new.entries) (plain result) }
+    ensures done { IfOk result (λ b. b ≡ None → tasks work.new.items ≡ []) }
 {
     while let Some(item) = work.pop() {
-        match step(alloc, pairs, item, work, settled) {
+        match step(alloc, known, item, work, settled) {
             Ok(None) => {}
             Ok(Some(binding)) => return Ok(Some(binding)),
             Err(error) => return Err(error),
@@ -37,77 +36,55 @@ pub fn next_binding(
     Ok(None)
 }
 
-fn step(
+fn step<'a>(
     alloc: Global,
-    pairs: &[(u32, Mono)],
-    item: Work,
-    work: &mut Vec<Work>,
-    settled: &mut Vec<(u32, Mono)>,
-) -> Result<Option<(u32, Mono)>, UnifyError>
-    requires { IsGood pairs.now }
-    ensures goes { (es : Equations) → Keeps es pairs.now (work.old.items ++ item ∷ []) settled.old.items
-        → Goes es pairs.now work.new.items settled.new.items result }
+    known: &Known<'a>,
+    item: Work<'a>,
+    work: &mut Vec<Work<'a>>,
+    settled: &mut Marks,
+) -> Result<Option<(u32, &'a Mono)>, UnifyError>
+    requires { IsGood (pairs_of known.now) }
+    ensures goes { (es : Equations) → Keeps es (pairs_of known.now) (tasks work.old.items ++ task_of item.entry ∷ []) (marks settled.old.entries)
+        → Goes es (pairs_of known.now) (tasks work.new.items) (marks settled.new.entries) (plain result) }
     ensures lighter { IfOk result (λ b. b ≡ None
-        → work_load pairs.now work.new.items < work_load pairs.now (work.old.items ++ item ∷ [])) }
+        → work_load (pairs_of known.now) (tasks work.new.items) < work_load (pairs_of known.now) (tasks work.old.items ++ task_of item.entry ∷ [])) }
 {
     match item {
-        Work::Settled(variable, ty) => {
-            settle(variable, ty, settled).map_err(UnifyError::Memory)?;
+        Work::Settled(variable, other) => {
+            mark(settled, variable, other).map_err(UnifyError::Memory)?;
             Ok(None)
         }
-        Work::Equation(left, right) => equate(alloc, pairs, left, right, work, settled.as_slice()),
+        Work::Equation(left, right) => equate(alloc, known, left, right, work, settled),
     }
 }
 
-fn settle(variable: u32, ty: Mono, settled: &mut Vec<(u32, Mono)>) -> Result<(), AllocError>
-    ensures { OnOk result (settled.new.items ≡ settled.old.items ++ (variable, ty) ∷ []) }
-{
-    settled.push((variable, ty))?;
-    Ok(())
-}
-
 /// One equation: the equations of its parts, or a variable against a type.
-fn equate(
+fn equate<'a>(
     alloc: Global,
-    pairs: &[(u32, Mono)],
-    left: Mono,
-    right: Mono,
-    work: &mut Vec<Work>,
-    settled: &[(u32, Mono)],
-) -> Result<Option<(u32, Mono)>, UnifyError>
-    requires { IsGood pairs.now }
-    ensures goes { (es : Equations) → Keeps es pairs.now (work.old.items ++ Equation left right ∷ []) settled.now
-        → Goes es pairs.now work.new.items settled.now result }
+    known: &Known<'a>,
+    left: &'a Mono,
+    right: &'a Mono,
+    work: &mut Vec<Work<'a>>,
+    settled: &Marks,
+) -> Result<Option<(u32, &'a Mono)>, UnifyError>
+    requires { IsGood (pairs_of known.now) }
+    ensures goes { (es : Equations) → Keeps es (pairs_of known.now) (tasks work.old.items ++ Equation left.now right.now ∷ []) (marks settled.now.entries)
+        → Goes es (pairs_of known.now) (tasks work.new.items) (marks settled.now.entries) (plain result) }
     ensures lighter { IfOk result (λ b. b ≡ None
-        → work_load pairs.now work.new.items < work_load pairs.now (work.old.items ++ Equation left right ∷ [])) }
+        → work_load (pairs_of known.now) (tasks work.new.items) < work_load (pairs_of known.now) (tasks work.old.items ++ Equation left.now right.now ∷ [])) }
 {
     match left {
-        Mono::Var(variable) => meet(alloc, pairs, variable, right, work, settled),
+        Mono::Var(variable) => meet(known, *variable, left, right, work, settled),
         Mono::Con(entity, arguments) => match right {
-            Mono::Var(variable) => {
-                meet(
-                    alloc,
-                    pairs,
-                    variable,
-                    Mono::Con(entity, arguments),
-                    work,
-                    settled,
-                )
+            Mono::Var(variable) => meet(known, *variable, right, left, work, settled),
+            Mono::Con(other, others) => {
+                split_constructor(alloc, left, right, entity, arguments, other, others, work)
             }
-            Mono::Con(other, others) => split_constructor(entity, arguments, other, others, work),
-            Mono::Fun(from, to) => Err(UnifyError::Mismatch {
-                left: Mono::Con(entity, arguments),
-                right: Mono::Fun(from, to),
-            }),
+            Mono::Fun(_, _) => Err(mismatch(alloc, left, right)),
         },
         Mono::Fun(from, to) => match right {
-            Mono::Var(variable) => {
-                meet(alloc, pairs, variable, Mono::Fun(from, to), work, settled)
-            }
-            Mono::Con(entity, arguments) => Err(UnifyError::Mismatch {
-                left: Mono::Fun(from, to),
-                right: Mono::Con(entity, arguments),
-            }),
+            Mono::Var(variable) => meet(known, *variable, right, left, work, settled),
+            Mono::Con(_, _) => Err(mismatch(alloc, left, right)),
             Mono::Fun(other_from, other_to) => {
                 split_function(from, to, other_from, other_to, work).map_err(UnifyError::Memory)?;
                 Ok(None)
@@ -116,93 +93,98 @@ fn equate(
     }
 }
 
-fn split_constructor(
-    entity: Entity,
-    arguments: Items<Mono>,
-    other: Entity,
-    others: Items<Mono>,
-    work: &mut Vec<Work>,
-) -> Result<Option<(u32, Mono)>, UnifyError>
-    ensures { Splits entity arguments other others work.old.items work.new.items result }
+/// Two types of constructors.
+fn split_constructor<'a>(
+    alloc: Global,
+    left: &'a Mono,
+    right: &'a Mono,
+    entity: &Entity,
+    arguments: &'a Items<Mono>,
+    other: &Entity,
+    others: &'a Items<Mono>,
+    work: &mut Vec<Work<'a>>,
+) -> Result<Option<(u32, &'a Mono)>, UnifyError>
+    requires left_is { left.now ≡ Con entity.now arguments.now }
+    requires right_is { right.now ≡ Con other.now others.now }
+    ensures { Splits entity.now arguments.now other.now others.now (tasks work.old.items) (tasks work.new.items) (plain result) }
 {
-    if is_same_entity(&entity, &other) && arguments.len() == others.len() {
-        split_arguments(work, arguments, others).map_err(UnifyError::Memory)?;
+    if is_same_entity(entity, other) && arguments.len() == others.len() {
+        split_arguments(work, arguments.as_slice(), others.as_slice()).map_err(UnifyError::Memory)?;
         return Ok(None);
     }
-    Err(UnifyError::Mismatch {
-        left: Mono::Con(entity, arguments),
-        right: Mono::Con(other, others),
-    })
+    Err(mismatch(alloc, left, right))
 }
 
-/// A variable against a type.
-fn meet(
-    alloc: Global,
-    pairs: &[(u32, Mono)],
+/// A variable against a type. Of two variables without a type the one with the greater number is
+/// bound to the other one.
+fn meet<'a>(
+    known: &Known<'a>,
     variable: u32,
-    other: Mono,
-    work: &mut Vec<Work>,
-    settled: &[(u32, Mono)],
-) -> Result<Option<(u32, Mono)>, UnifyError>
-    requires { IsGood pairs.now }
-    ensures goes { (es : Equations) → Keeps es pairs.now (work.old.items ++ Equation (Var variable) other ∷ []) settled.now
-        → Goes es pairs.now work.new.items settled.now result }
+    this: &'a Mono,
+    other: &'a Mono,
+    work: &mut Vec<Work<'a>>,
+    settled: &Marks,
+) -> Result<Option<(u32, &'a Mono)>, UnifyError>
+    requires good { IsGood (pairs_of known.now) }
+    requires is { this.now ≡ Var variable }
+    ensures goes { (es : Equations) → Keeps es (pairs_of known.now) (tasks work.old.items ++ Equation (Var variable) other.now ∷ []) (marks settled.now.entries)
+        → Goes es (pairs_of known.now) (tasks work.new.items) (marks settled.now.entries) (plain result) }
     ensures lighter { IfOk result (λ b. b ≡ None
-        → work_load pairs.now work.new.items < work_load pairs.now (work.old.items ++ Equation (Var variable) other ∷ [])) }
+        → work_load (pairs_of known.now) (tasks work.new.items) < work_load (pairs_of known.now) (tasks work.old.items ++ Equation (Var variable) other.now ∷ [])) }
 {
-    if is_variable(&other, variable) {
+    if is_variable(other, variable) {
         return Ok(None);
     }
-    if let Some(ty) = look_up(pairs, variable) {
-        open(alloc, variable, ty, other, work, settled).map_err(UnifyError::Memory)?;
+    if let Some(ty) = known_type(known, variable) {
+        open(variable, ty, other, work, settled).map_err(UnifyError::Memory)?;
         return Ok(None);
     }
     match other {
-        Mono::Var(second) => match look_up(pairs, second) {
-            Some(ty) => {
-                open(alloc, second, ty, Mono::Var(variable), work, settled).map_err(
-                    UnifyError::Memory,
-                )?;
-                Ok(None)
+        Mono::Var(second) => {
+            if let Some(ty) = known_type(known, *second) {
+                open(*second, ty, this, work, settled).map_err(UnifyError::Memory)?;
+                return Ok(None);
             }
-            None => Ok(Some((variable, Mono::Var(second)))),
-        },
-        Mono::Con(entity, arguments) => Ok(Some((variable, Mono::Con(entity, arguments)))),
-        Mono::Fun(from, to) => Ok(Some((variable, Mono::Fun(from, to)))),
+            if variable < *second {
+                return Ok(Some((*second, this)));
+            }
+            Ok(Some((variable, other)))
+        }
+        Mono::Con(_, _) => Ok(Some((variable, other))),
+        Mono::Fun(_, _) => Ok(Some((variable, other))),
     }
 }
 
-/// Puts the type of a variable in its place, unless that was done before: what was settled once
-/// is not looked into again, so that types that share their parts take no more work than there
-/// are parts.
-fn open(
-    alloc: Global,
+/// Puts the type of a variable in its place. Against another variable this is settled then, and is
+/// not looked into again, so that types that share their parts take no more work than there are
+/// parts.
+fn open<'a>(
     variable: u32,
-    ty: &Mono,
-    other: Mono,
-    work: &mut Vec<Work>,
-    settled: &[(u32, Mono)],
+    ty: &'a Mono,
+    other: &'a Mono,
+    work: &mut Vec<Work<'a>>,
+    settled: &Marks,
 ) -> Result<(), AllocError>
-    ensures { OnOk result (Opens settled.now variable ty.now other work.old.items work.new.items) }
+    ensures { OnOk result (Opens (marks settled.now.entries) variable ty.now other.now (tasks work.old.items) (tasks work.new.items)) }
 {
-    if is_settled(settled, variable, &other) {
+    let Mono::Var(second) = other else {
+        return push_equation(work, ty, other);
+    };
+    if is_marked(settled, variable, *second) {
         return Ok(());
     }
-    let copy = other.copied(alloc)?;
-    work.push(Work::Settled(variable, copy))?;
-    work.push(Work::Equation(ty.copied(alloc)?, other))?;
-    Ok(())
+    work.push(Work::Settled(variable, *second))?;
+    push_equation(work, ty, other)
 }
 
-fn is_settled(settled: &[(u32, Mono)], variable: u32, ty: &Mono) -> bool
-    ensures { IsTrue result → IsOneOf (variable, ty.now) settled.now }
+fn mismatch(alloc: Global, left: &Mono, right: &Mono) -> UnifyError
+    ensures { IsMismatch left.now right.now result }
 {
-    for (other, its) in settled {
-        if *other == variable {
-            if its.is_same(ty) {
-                return true;
-            }
-        }
+    match left.copied(alloc) {
+        Err(error) => UnifyError::Memory(error),
+        Ok(left) => match right.copied(alloc) {
+            Err(error) => UnifyError::Memory(error),
+            Ok(right) => UnifyError::Mismatch { left, right },
+        },
     }
-    false
 }

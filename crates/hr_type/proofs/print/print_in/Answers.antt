@@ -7,8 +7,9 @@ pub returns : goal.returns
 returns c =
     let scope = c.args.scope.now in
     let ty = c.args.ty.now in
+    let named = sym c.in_ok-named.ensures ∙ c.if-not-named.false in
     record {
-      named = sym c.is_spellable.ensures ∙ c.if-not-is_spellable.false;
+      named = named;
       text = c.in_ok-write_type.ensures ∙ ap (λ xs. xs ++ bytes_of (written scope ty).pieces) c.new-text.ensures.items;
-      reads = reads_back scope ty (sym c.is_spellable.ensures ∙ c.if-not-is_spellable.false) c.requires;
+      reads = reads_back scope ty named c.requires;
     }
