@@ -14,7 +14,7 @@ const LIMIT: usize = 1_000_000;
 pub fn answers(alloc: Global, fields: &[Vec<u8>]) -> Result<Option<String>, AllocError> {
     let mut solver = Solver::new(alloc);
     let mut rest = fields;
-    while let [left, right, later @ ..] = rest {
+    'equations: while let [left, right, later @ ..] = rest {
         let (Some(left), Some(right)) = (
             type_of(alloc, left.as_slice())?,
             type_of(alloc, right.as_slice())?,

@@ -1,7 +1,4 @@
-ghost use Rattle.std.specs.Prelude.{◌<◌, IfOk};
-ghost use Rattle.hr_unify.specs.Unifiers.{IsGood};
-
-use crate::{Subst, UnifyError, unify};
+use crate::{Solver, Subst, UnifyError, unify};
 use hr_base::{Entity, Space, Text};
 use hr_items::{Boxed, Items};
 use hr_type::Mono;
@@ -29,13 +26,6 @@ fn list(alloc: Global, ty: Mono) -> Result<Mono, AllocError> {
     let mut types = Items::new(alloc);
     types.push(ty)?;
     con(alloc, b"List", types)
-}
-
-fn pair(alloc: Global, first: Mono, second: Mono) -> Result<Mono, AllocError> {
-    let mut types = Items::new(alloc);
-    types.push(first)?;
-    types.push(second)?;
-    con(alloc, b"Pair", types)
 }
 
 fn fun(alloc: Global, from: Mono, to: Mono) -> Result<Mono, AllocError> {
@@ -71,29 +61,6 @@ fn occurs(answer: Result<Subst, UnifyError>) -> bool {
     matches!(answer, Err(UnifyError::Occurs { .. }))
 }
 
-fn shows_occurs(
-    alloc: Global,
-    answer: &Result<Subst, UnifyError>,
-    variable: u32,
-    shown: &Mono,
-) -> Result<bool, AllocError> {
-    match answer {
-        Err(UnifyError::Occurs { var, ty }) => { Ok(*var == variable && ty.is_same(alloc, shown)?) }
-        _ => Ok(false),
-    }
-}
-
-/// Unifies equations one after another, from no pairs.
-fn solve_all(alloc: Global, equations: &[(Mono, Mono)]) -> Result<Subst, UnifyError>
-    ensures { IfOk result (λ found. IsGood found.pairs) }
-{
-    let mut found = Subst::new(alloc);
-    for (left, right) in equations {
-        found = unify(alloc, &found, left, right)?;
-    }
-    Ok(found)
-}
-
 #[test]
 fn a_variable_is_bound_to_a_type(rt: HostRuntime) -> Result<(), Fail> {
     let alloc = rt.alloc();
@@ -114,115 +81,23 @@ fn what_differs_is_refused(rt: HostRuntime) -> Result<(), Fail> {
     let none = Subst::new(alloc);
     assert!(rt; mismatches(unify(alloc, &none, &int(alloc)?, &char_type(alloc)?)));
     assert!(rt; occurs(unify(alloc, &none, &Mono::Var(0), &list(alloc, Mono::Var(0))?)));
-    let short = con(alloc, b"Pair", Items::new(alloc))?;
-    let long = pair(alloc, int(alloc)?, int(alloc)?)?;
-    assert!(rt; mismatches(unify(alloc, &none, &short, &long)));
     let step = fun(alloc, Mono::Var(0), Mono::Var(1))?;
     assert!(rt; mismatches(unify(alloc, &none, &step, &int(alloc)?)));
     Ok(())
 }
 
 #[test]
-fn earlier_pairs_count(rt: HostRuntime) -> Result<(), Fail> {
+fn a_solver_goes_on_from_what_it_knows(rt: HostRuntime) -> Result<(), Fail> {
     let alloc = rt.alloc();
-    let equations = [
-        (Mono::Var(0), list(alloc, Mono::Var(1))?),
-        (Mono::Var(2), list(alloc, int(alloc)?)?),
-        (Mono::Var(0), Mono::Var(2)),
-    ];
-    let found = solve_all(alloc, equations.as_slice())
-        .ok()
-        .ok_or("refused")?;
-    assert!(rt; mismatches(unify(alloc, &found, &Mono::Var(1), &char_type(alloc)?)));
-    let expected = [
-        (0, list(alloc, Mono::Var(1))?),
-        (2, list(alloc, int(alloc)?)?),
-        (1, int(alloc)?),
-    ];
-    assert!(rt; gives(alloc, Ok(found), expected.as_slice())?);
-    Ok(())
-}
-
-#[test]
-fn a_cycle_through_pairs_is_shown_whole(rt: HostRuntime) -> Result<(), Fail> {
-    let alloc = rt.alloc();
-    let equations = [(Mono::Var(0), list(alloc, Mono::Var(1))?)];
-    let found = solve_all(alloc, equations.as_slice())
-        .ok()
-        .ok_or("refused")?;
-    let step = fun(alloc, int(alloc)?, Mono::Var(0))?;
-    let whole = fun(alloc, int(alloc)?, list(alloc, Mono::Var(1))?)?;
-    let answer = unify(alloc, &found, &Mono::Var(1), &step);
-    assert!(rt; shows_occurs(alloc, &answer, 1, &whole)?);
-    Ok(())
-}
-
-/// Pairs by which the types of `first + 1` to `first + 30` double: a variable is a pair of the
-/// one before.
-fn doubling(alloc: Global, found: Subst, first: u32) -> Result<Subst, UnifyError>
-    requires good { IsGood found.pairs }
-    requires small { first < 1000 }
-    ensures { IfOk result (λ later. IsGood later.pairs) }
-{
-    let mut found = found;
-    for i in 0..30 {
-        let both = pair(alloc, Mono::Var(first + i), Mono::Var(first + i)).map_err(
-            UnifyError::Memory,
-        )?;
-        found = unify(alloc, &found, &Mono::Var(first + i + 1), &both)?;
-    }
-    Ok(found)
-}
-
-#[test]
-fn doubling_types_take_a_step_a_pair(rt: HostRuntime) -> Result<(), Fail> {
-    let alloc = rt.alloc();
-    let found = doubling(alloc, Subst::new(alloc), 0).ok().ok_or("refused")?;
-    let found = doubling(alloc, found, 100).ok().ok_or("refused")?;
-    let found = unify(alloc, &found, &Mono::Var(30), &Mono::Var(130))
-        .ok()
-        .ok_or("refused")?;
-    assert_eq!(rt; found.pairs.len(), 61);
-    let again = unify(alloc, &found, &Mono::Var(0), &Mono::Var(100))
-        .ok()
-        .ok_or("refused")?;
-    assert_eq!(rt; again.pairs.len(), 61);
-    assert!(rt; occurs(unify(alloc, &found, &Mono::Var(0), &Mono::Var(130))));
-    Ok(())
-}
-
-fn arrows(alloc: Global, count: u32, end: Mono) -> Result<Mono, AllocError> {
-    let mut ty = end;
-    for _ in 0..count {
-        ty = fun(alloc, char_type(alloc)?, ty)?;
-    }
-    Ok(ty)
-}
-
-fn lists(alloc: Global, count: u32, end: Mono) -> Result<Mono, AllocError> {
-    let mut ty = end;
-    for _ in 0..count {
-        ty = list(alloc, ty)?;
-    }
-    Ok(ty)
-}
-
-#[test]
-fn two_thousand_arrows_are_unified(rt: HostRuntime) -> Result<(), Fail> {
-    let alloc = rt.alloc();
-    let known = arrows(alloc, 2000, int(alloc)?)?;
-    let open = arrows(alloc, 2000, Mono::Var(7))?;
-    let answer = unify(alloc, &Subst::new(alloc), &known, &open);
-    assert!(rt; gives(alloc, answer, &[(7, int(alloc)?)])?);
-    Ok(())
-}
-
-#[test]
-fn five_hundred_nested_lists_are_unified(rt: HostRuntime) -> Result<(), Fail> {
-    let alloc = rt.alloc();
-    let known = lists(alloc, 500, int(alloc)?)?;
-    let open = lists(alloc, 500, Mono::Var(7))?;
-    let answer = unify(alloc, &Subst::new(alloc), &open, &known);
-    assert!(rt; gives(alloc, answer, &[(7, int(alloc)?)])?);
+    let mut solver = Solver::new(alloc);
+    let known = solver.unify(alloc, &Mono::Var(0), &list(alloc, Mono::Var(1))?);
+    assert!(rt; known.is_ok());
+    let refused = solver.unify(alloc, &Mono::Var(1), &Mono::Var(0));
+    assert!(rt; matches!(refused, Err(UnifyError::Occurs { .. })));
+    let more = solver.unify(alloc, &int(alloc)?, &Mono::Var(1));
+    assert!(rt; more.is_ok());
+    assert!(rt; solver.look_up(1).is_some());
+    let whole = solver.resolved(alloc, 10, &Mono::Var(0))?;
+    assert!(rt; whole.is_same(alloc, &list(alloc, int(alloc)?)?)?);
     Ok(())
 }
