@@ -14,7 +14,7 @@ use std::alloc::Global;
 const MOST_COMMAS: usize = 14;
 
 /// What an opening bracket begins: a constructor that has no name, or what is to be read behind it.
-#[derive(Debug, Drop)]
+#[derive(Drop)]
 pub enum Bracket {
     Constructor(Constructor),
     Open(Item),

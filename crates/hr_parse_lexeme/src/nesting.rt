@@ -7,7 +7,7 @@ use crate::{Held, Stop};
 pub const LIMIT: u32 = 256;
 
 /// A tree, and the number of levels of nodes that it has.
-#[derive(Debug, Drop)]
+#[derive(Drop)]
 pub struct Measured<T: Drop> {
     pub tree: Held<T>,
     pub height: u32,

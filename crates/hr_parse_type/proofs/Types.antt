@@ -191,19 +191,27 @@ pub parts_stay : {parts : Parts} {a b c : Standing} → c ≡ b → ReadsTypes p
 parts_stay {parts} {a} e p = subst (λ s. ReadsTypes parts a s) (sym e) p
 
 -- heights that fit below a depth
-pub more_fits : {depth h k m : ℕ} → depth + h ≤ 256 → depth + k ≤ 256 → m ≡ max k h → depth + m ≤ 256
-more_fits p q e = omega arith
+pub more_fits : (depth h k m : ℕ) → depth + h ≤ 256 → depth + k ≤ 256 → m ≡ max k h → depth + m ≤ 256
+more_fits depth h k m p q e = omega arith
 
-pub head_fits : {depth h m : ℕ} (head : Head) {found : Measured Ty} → found ≡ atom_of head → depth + h ≤ 256 → depth + head_height head ≤ 256 → m ≡ max found.height h → depth + m ≤ 256
-head_fits {depth} (Head.Named named) e p q f = more_fits p (subst (λ t. depth + t ≤ 256) (sym (ap (λ t. t.height) e)) q) f
-head_fits {depth} (Head.Atom ty) e p q f = more_fits p (subst (λ t. depth + t ≤ 256) (sym (ap (λ t. t.height) e)) q) f
+pub head_fits : (depth h m : ℕ) (head : Head) (found : Measured Ty) → found ≡ atom_of head → depth + h ≤ 256 → depth + head_height head ≤ 256 → m ≡ max found.height h → depth + m ≤ 256
+head_fits depth h m (Head.Named named) found e p q f = more_fits depth h found.height m p (subst (λ t. depth + t ≤ 256) (sym (ap (λ t. t.height) e)) q) f
+head_fits depth h m (Head.Atom ty) found e p q f = more_fits depth h found.height m p (subst (λ t. depth + t ≤ 256) (sym (ap (λ t. t.height) e)) q) f
 
 -- how many parts there are
-pub none_few : {others : List (Listed Ty)} → others ≡ [] → length others ≤ 14
-none_few e = omega (arith, ap length e)
+pub none_few : (others : List (Listed Ty)) → others ≡ [] → length others ≤ 14
+none_few others e = omega (arith, ap length e)
 
-pub more_few : {others more : List (Listed Ty)} {part : Listed Ty} → more ≡ others ++ part ∷ [] → length others < 14 → length more ≤ 14
-more_few {others} {part = part} e h = omega (arith, ap length e, length-append others (part ∷ []))
+pub more_few : (others more : List (Listed Ty)) (part : Listed Ty) → more ≡ others ++ part ∷ [] → length others < 14 → length more ≤ 14
+more_few others more part e h = omega (arith, ap length e, length-append others (part ∷ []))
 
-pub one_fewer : {others more : List (Listed Ty)} {part : Listed Ty} → more ≡ others ++ part ∷ [] → length others < 14 → 14 - length more < 14 - length others
-one_fewer {others} {part = part} e h = omega (arith, ap length e, length-append others (part ∷ []))
+pub one_fewer : (others more : List (Listed Ty)) (part : Listed Ty) → more ≡ others ++ part ∷ [] → length others < 14 → 14 - length more < 14 - length others
+one_fewer others more part e h = omega (arith, ap length e, length-append others (part ∷ []))
+
+within : (depth h : ℕ) → depth + h ≤ 256 → h ≤ 256 - depth
+within depth h p = omega arith
+
+-- on all the levels below a depth
+pub within_depth : (depth : ℕ) {ty : Measured Ty} {found : Ty} {a b : Standing} → found ≡ ty.tree → ReadsTy TyPlace.Whole ty a b → depth + ty.height ≤ 256
+    → Reads (256 - depth) (λ below n. below.ty n TyPlace.Whole found) a b
+within_depth depth {ty} {a = a} {b} e p fits = subst (λ t. Reads (256 - depth) (λ below n. below.ty n TyPlace.Whole t) a b) (sym e) (last p (within depth ty.height fits))

@@ -10,14 +10,14 @@ use sqlite_items::{Boxed, Items as Children};
 use std::alloc::{AllocError, Global};
 
 /// An atomic type, or a constructor that arguments may follow.
-#[derive(Debug, Drop)]
+#[derive(Drop)]
 pub(crate) enum Head {
     Named(Held<Constructor>),
     Atom(Measured<Ty>),
 }
 
 /// Parts with commas behind them, and the last one.
-#[derive(Debug, Drop)]
+#[derive(Drop)]
 pub(crate) struct Parts {
     pub(crate) others: Children<Listed<Ty>>,
     pub(crate) last: Held<Ty>,

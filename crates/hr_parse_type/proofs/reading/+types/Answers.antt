@@ -28,7 +28,7 @@ arguments-loop-alloc-smaller t c = ty_shrinks (atom_read c.in_ok-head.field-0 c.
 pub arguments-loop-alloc-preserved : goal.arguments-loop-alloc-preserved
 arguments-loop-alloc-preserved t c = record {
   reads = one_argument c.loop-alloc.invariant.reads (made c.atom-argument.ensures (atom_read c.in_ok-head.field-0 c.in_ok-head.ensures.reads)) c.take.ensures c.in_ok-push.ensures.ok c.max-height.ensures;
-  fits = head_fits c.in_ok-head.field-0 c.atom-argument.ensures c.loop-alloc.invariant.fits c.in_ok-head.ensures.fits c.max-height.ensures;
+  fits = head_fits c.args.depth c.loop-alloc.height c.max-height.result c.in_ok-head.field-0 c.atom-argument.result c.atom-argument.ensures c.loop-alloc.invariant.fits c.in_ok-head.ensures.fits c.max-height.ensures;
 }
 
 pub in_parentheses-returns-in-Constructor-clause-reads : goal.in_parentheses-returns-in-Constructor-clause-reads
@@ -56,19 +56,19 @@ head-returns-in_ok-bracket-in-LeftSquare-clause-reads t c = behind Mark.LeftSqua
 pub parts-loop-alloc-init : goal.parts-loop-alloc-init
 parts-loop-alloc-init t c = record {
   reads = first_type c.in_ok-first.ensures.reads c.new-others.ensures;
-  few = none_few c.new-others.ensures;
+  few = none_few _ c.new-others.ensures;
   fits = c.in_ok-first.ensures.fits;
 }
 
 pub parts-loop-alloc-preserved : goal.parts-loop-alloc-preserved
 parts-loop-alloc-preserved t c = record {
   reads = next_type c.loop-alloc.invariant.reads c.in-Some.ensures c.in_ok-next.ensures.reads c.take.ensures c.in_ok-push.ensures.ok c.max-height.ensures;
-  few = more_few c.in_ok-push.ensures.ok (omega arith);
-  fits = more_fits c.loop-alloc.invariant.fits c.in_ok-next.ensures.fits c.max-height.ensures;
+  few = more_few c.loop-alloc.others _ _ c.in_ok-push.ensures.ok (omega arith);
+  fits = more_fits c.args.depth c.loop-alloc.height c.in_ok-next.field-0.height c.max-height.result c.loop-alloc.invariant.fits c.in_ok-next.ensures.fits c.max-height.ensures;
 }
 
 pub parts-loop-alloc-smaller : goal.parts-loop-alloc-smaller
-parts-loop-alloc-smaller t c = one_fewer c.in_ok-push.ensures.ok (omega arith)
+parts-loop-alloc-smaller t c = one_fewer c.loop-alloc.others _ _ c.in_ok-push.ensures.ok (omega arith)
 
 pub parts-returns-clause-reads : goal.parts-returns-clause-reads
 parts-returns-clause-reads t c = c.loop-alloc.invariant.reads
