@@ -74,20 +74,24 @@ pub nothing_taken : (a : Standing) → TakesAll [] a a
 nothing_taken a = record { taken = record { read = λ levels le. refl; blocks = refl } }
 
 pub taken : {Is : Item → Type 0} {item : Item} {items : List Item} {a b c : Standing} → Takes Is item a b → TakesAll items b c → TakesAll (item ∷ items) a c
-taken {b} p q = record { taken = record {
-  read = λ levels le. (b.rest, p.taken.read levels le, at_column q.taken p.taken.blocks levels le);
-  blocks = q.taken.blocks ∙ p.taken.blocks;
-} }
+taken {b} p q = record {
+  taken = record {
+    read = λ levels le. (b.rest, p.taken.read levels le, at_column q.taken p.taken.blocks levels le);
+    blocks = q.taken.blocks ∙ p.taken.blocks;
+  };
+}
 
 all_more : (n : ℕ) (items : List Item) (item : Item) (ts vs us : List Placed) → take_all n items ts vs → takes n item vs us → take_all n (items ++ item ∷ []) ts us
 all_more n [] item ts vs us e t = (us, subst (λ l. takes n item l us) e t, refl)
 all_more n (next ∷ items) item ts vs us h t = (h.0, h.1, all_more n items item h.0 vs us h.2 t)
 
 pub taken_more : {Is : Item → Type 0} {item : Item} {items : List Item} {a b c : Standing} → TakesAll items a b → Takes Is item b c → TakesAll (items ++ item ∷ []) a c
-taken_more {item} {items} {a} {b} {c} p q = record { taken = record {
-  read = λ levels le. all_more (enclosing a.blocks) items item a.rest b.rest c.rest (p.taken.read levels le) (at_column q.taken p.taken.blocks levels le);
-  blocks = q.taken.blocks ∙ p.taken.blocks;
-} }
+taken_more {item} {items} {a} {b} {c} p q = record {
+  taken = record {
+    read = λ levels le. all_more (enclosing a.blocks) items item a.rest b.rest c.rest (p.taken.read levels le) (at_column q.taken p.taken.blocks levels le);
+    blocks = q.taken.blocks ∙ p.taken.blocks;
+  };
+}
 
 pub spells_as : {T : Type 0} {Is Other : T → Type 0} {items_of : T → List Item} {x : T} {a b : Standing} → (Is x → Other x) → Spells Is items_of x a b → Spells Other items_of x a b
 spells_as turn p = record { is = turn p.is; taken = p.taken }
@@ -102,11 +106,13 @@ each_none of a = record { reads = record { read = λ levels le. refl; blocks = r
 
 pub each_more : {T : Type 0} {of : Trees T} {h k : ℕ} {xs : List T} {x : T} {a b c : Standing} (m : ℕ)
     → ReadsEach h of xs a b → h ≤ m → Reads k (λ below n. of below n x) b c → k ≤ m → ReadsEach m of (xs ++ x ∷ []) a c
-each_more {of} {h} {k} {xs} {x} {a} {b} {c} m p in_p q in_q = record { reads = record {
-  read = λ levels le. turn_more_in (of (derivations levels) (enclosing a.blocks)) xs x a.rest b.rest c.rest
-      (p.reads.read levels (le_both h m levels in_p le)) (at_column {s = λ below n. of below n x} q p.reads.blocks levels (le_both k m levels in_q le));
-  blocks = q.blocks ∙ p.reads.blocks;
-} }
+each_more {of} {h} {k} {xs} {x} {a} {b} {c} m p in_p q in_q = record {
+  reads = record {
+    read = λ levels le. turn_more_in (of (derivations levels) (enclosing a.blocks)) xs x a.rest b.rest c.rest
+        (p.reads.read levels (le_both h m levels in_p le)) (at_column {s = λ below n. of below n x} q p.reads.blocks levels (le_both k m levels in_q le));
+    blocks = q.blocks ∙ p.reads.blocks;
+  };
+}
 
 -- parts with separators: a first one alone
 pub parts_begin : {T : Type 0} (Separates : Item → Type 0) (of : Trees T) {h : ℕ} (x : T) {a b : Standing} → Reads h (λ below n. of below n x) a b → ReadsParts h Separates of [] x a b
@@ -116,14 +122,18 @@ parts_begin Separates of x {a} p = record { reads = record { read = λ levels le
 pub parts_more : {T : Type 0} {Separates : Item → Type 0} {of : Trees T} {h k : ℕ} {xs : List (Listed T)} {x : T} (y : T) {comma : Item} {a b c d : Standing} (m : ℕ)
     → ReadsParts h Separates of xs x a b → h ≤ m → Takes Separates comma b c → Reads k (λ below n. of below n y) c d → k ≤ m
     → ReadsParts m Separates of (xs ++ record { part = x; separator = Some comma } ∷ []) y a d
-parts_more {Separates} {of} {h} {k} {xs} {x} y {comma} {a} {b} {c} {d} m p in_p q r in_r = record { reads = record {
-  read = λ levels le. (c.rest,
-    turn_more_in (with_separator (one (enclosing a.blocks) Separates) (of (derivations levels) (enclosing a.blocks))) xs (record { part = x; separator = Some comma }) a.rest
-      (p.reads.read levels (le_both h m levels in_p le)).0 c.rest (p.reads.read levels (le_both h m levels in_p le)).1
-      (b.rest, (p.reads.read levels (le_both h m levels in_p le)).2, (q.is, at_column q.taken p.reads.blocks levels (none_below levels))),
-    at_column {s = λ below n. of below n y} r (q.taken.blocks ∙ p.reads.blocks) levels (le_both k m levels in_r le));
-  blocks = r.blocks ∙ q.taken.blocks ∙ p.reads.blocks;
-} }
+parts_more {Separates} {of} {h} {k} {xs} {x} y {comma} {a} {b} {c} {d} m p in_p q r in_r = record {
+  reads = record {
+    read = λ levels le. (
+      c.rest,
+      turn_more_in (with_separator (one (enclosing a.blocks) Separates) (of (derivations levels) (enclosing a.blocks))) xs (record { part = x; separator = Some comma }) a.rest
+          (p.reads.read levels (le_both h m levels in_p le)).0 c.rest (p.reads.read levels (le_both h m levels in_p le)).1
+          (b.rest, (p.reads.read levels (le_both h m levels in_p le)).2, (q.is, at_column q.taken p.reads.blocks levels (none_below levels))),
+      at_column {s = λ below n. of below n y} r (q.taken.blocks ∙ p.reads.blocks) levels (le_both k m levels in_r le),
+    );
+    blocks = r.blocks ∙ q.taken.blocks ∙ p.reads.blocks;
+  };
+}
 
 separated_end : {T : Type 0} (separator : Item → Reading) (of : T → Reading) (xs : List (Listed T)) (x : T) (ts vs us : List Placed)
     → in_turn (with_separator separator of) xs ts vs → of x vs us → separated separator of (xs ++ record { part = x; separator = None } ∷ []) ts us

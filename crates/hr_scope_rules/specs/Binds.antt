@@ -25,7 +25,7 @@ pub record DeclaresIn (marks : List Mark) (regions : List Region) (space : Space
 pub data Innermost (marks : List Mark) (space : Space) (text : List ℕ) : List Region → List Region → Type 0 where
   here : (region : Region) (outer : List Region) (number : ℕ) → DeclaresIn marks (region ∷ outer) space text number → Innermost marks space text (region ∷ outer) (region ∷ outer)
   outside : (region : Region) (outer found : List Region) → ((number : ℕ) → DeclaresIn marks (region ∷ outer) space text number → ⊥)
-    → Innermost marks space text outer found → Innermost marks space text (region ∷ outer) found
+      → Innermost marks space text outer found → Innermost marks space text (region ∷ outer) found
   top_level : Innermost marks space text [] []
 
 -- a binder of the spelling that is declared in the region, or at the top level of the module
@@ -41,12 +41,13 @@ Global modules number space name binder = (entity : Entity) × StandsFor (InScop
 -- a name that is used: a local one where a region round it declares it
 abbrev pub Used : (modules : List Module) → ℕ → Module → List Region → Space → Name → Binder → Type 0
 Used modules number tree regions space name binder = by name.qualifier where
-    found : List Region → Type 0
-    found [] = Global modules number space name binder
-    found (region ∷ outer) = DeclaredThere tree number (region ∷ outer) space name.text binder
-    by : Option (List ℕ) → Type 0
-    by (Some qualifier) = Global modules number space name binder
-    by None = (where_found : List Region) × Innermost (outline tree) space name.text regions where_found × found where_found
+  found : List Region → Type 0
+  found [] = Global modules number space name binder
+  found (region ∷ outer) = DeclaredThere tree number (region ∷ outer) space name.text binder
+
+  by : Option (List ℕ) → Type 0
+  by (Some qualifier) = Global modules number space name binder
+  by None = (where_found : List Region) × Innermost (outline tree) space name.text regions where_found × found where_found
 
 -- the lexeme of that number is spelled so
 abbrev pub IsSpelled : Module → ℕ → Name → Type 0
@@ -61,7 +62,7 @@ ExportedBy modules tree lexeme entity =
 pub data HiddenBy (modules : List Module) (tree : Module) (origin : ℕ) (text : List ℕ) : Entity → Type 0 where
   value_or_type : (entity : Entity) → ExportedBy modules tree origin entity → entity.text ≡ text → entity.space ≢ Space.Constructor → HiddenBy modules tree origin text entity
   constructor_alone : (entity : Entity) → ExportedBy modules tree origin entity → IsNamed Space.Constructor text entity
-    → ((other : Entity) → ExportedBy modules tree origin other → other.text ≡ text → other.space ≡ Space.Constructor) → HiddenBy modules tree origin text entity
+      → ((other : Entity) → ExportedBy modules tree origin other → other.text ≡ text → other.space ≡ Space.Constructor) → HiddenBy modules tree origin text entity
 
 -- the entity is a constructor, of that spelling, of a type that meets a condition
 abbrev pub PartOf : (modules : List Module) → (Entity → Type 0) → List ℕ → Entity → Type 0
@@ -83,17 +84,18 @@ Listed modules number tree _ name entity = ⊥
 -- what a lexeme of a module may be bound to, by its role
 abbrev pub Candidate : (modules : List Module) → ℕ → Module → Mark → Binder → Type 0
 Candidate modules number tree mark binder = by mark.role where
-    name : Name
-    name = name_of mark.item.lexeme
-    by : Role → Type 0
-    by Role.Plain = ⊥
-    by Role.Parameter = ⊥
-    by (Role.Uses space) = Used modules number tree mark.regions space name binder
-    by (Role.Declares space) = DeclaredThere tree number mark.regions space name.text binder
-    by Role.GoesOn = DeclaredThere tree number mark.regions Space.Value name.text binder
-    by Role.Signs = DeclaredThere tree number mark.regions Space.Value name.text binder
-    by (Role.Fixes space) = DeclaredThere tree number mark.regions space name.text binder
-    by role = (entity : Entity) × Listed modules number tree role name entity × (binder ≡ Binder.Global entity)
+  name : Name
+  name = name_of mark.item.lexeme
+
+  by : Role → Type 0
+  by Role.Plain = ⊥
+  by Role.Parameter = ⊥
+  by (Role.Uses space) = Used modules number tree mark.regions space name binder
+  by (Role.Declares space) = DeclaredThere tree number mark.regions space name.text binder
+  by Role.GoesOn = DeclaredThere tree number mark.regions Space.Value name.text binder
+  by Role.Signs = DeclaredThere tree number mark.regions Space.Value name.text binder
+  by (Role.Fixes space) = DeclaredThere tree number mark.regions space name.text binder
+  by role = (entity : Entity) × Listed modules number tree role name entity × (binder ≡ Binder.Global entity)
 
 -- the lexeme at a spot of a project
 pub record Stands (modules : List Module) (spot : Spot) (tree : Module) (mark : Mark) : Type 0 where
@@ -111,8 +113,8 @@ pub record Binds (modules : List Module) (spot : Spot) (binder : Binder) : Type 
 -- the lexeme is no name, or one that is bound to nothing by its role
 abbrev pub IsNoName : (modules : List Module) → ℕ → Module → Mark → Type 0
 IsNoName modules number tree mark = by mark.role where
-    by : Role → Type 0
-    by Role.Plain = Unit {0}
-    by Role.Parameter = Unit {0}
-    by (Role.Hidden origin) = (binder : Binder) → Candidate modules number tree mark binder → ⊥
-    by role = ⊥
+  by : Role → Type 0
+  by Role.Plain = Unit {0}
+  by Role.Parameter = Unit {0}
+  by (Role.Hidden origin) = (binder : Binder) → Candidate modules number tree mark binder → ⊥
+  by role = ⊥

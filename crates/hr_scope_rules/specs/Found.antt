@@ -51,19 +51,20 @@ declared_there tree number (region ∷ outer) space text =
 
 abbrev pub used : List Scoped → Module → ℕ → List Region → Space → Name → List Binder
 used scope tree number regions space name = by name.qualifier where
-    found : List Region → List Binder
-    found [] = globals (standing scope space name)
-    found (region ∷ outer) = declared_there tree number (region ∷ outer) space name.text
-    by : Option (List ℕ) → List Binder
-    by (Some qualifier) = globals (standing scope space name)
-    by None = found (innermost (outline tree) space name.text regions)
+  found : List Region → List Binder
+  found [] = globals (standing scope space name)
+  found (region ∷ outer) = declared_there tree number (region ∷ outer) space name.text
+
+  by : Option (List ℕ) → List Binder
+  by (Some qualifier) = globals (standing scope space name)
+  by None = found (innermost (outline tree) space name.text regions)
 
 -- how the lexeme of that number is spelled
 abbrev pub spelled_at : List Mark → ℕ → Name
 spelled_at marks number = by (slice_get marks number) where
-    by : Option Mark → Name
-    by None = plain_name []
-    by (Some mark) = name_of mark.item.lexeme
+  by : Option Mark → Name
+  by None = plain_name []
+  by (Some mark) = name_of mark.item.lexeme
 
 abbrev pub exported_by : List Module → Module → ℕ → List Entity
 exported_by modules tree lexeme = exported_from (exports_of modules) 0 modules (spelled_at (outline tree) lexeme).text
@@ -98,17 +99,18 @@ listed modules tree _ name = []
 -- the binders that a lexeme may have
 abbrev pub candidates : List Module → ℕ → Module → Mark → List Binder
 candidates modules number tree mark = by mark.role where
-    name : Name
-    name = name_of mark.item.lexeme
-    by : Role → List Binder
-    by Role.Plain = []
-    by Role.Parameter = []
-    by (Role.Uses space) = used (scope_of modules tree) tree number mark.regions space name
-    by (Role.Declares space) = declared_there tree number mark.regions space name.text
-    by Role.GoesOn = declared_there tree number mark.regions Space.Value name.text
-    by Role.Signs = declared_there tree number mark.regions Space.Value name.text
-    by (Role.Fixes space) = declared_there tree number mark.regions space name.text
-    by role = globals (listed modules tree role name)
+  name : Name
+  name = name_of mark.item.lexeme
+
+  by : Role → List Binder
+  by Role.Plain = []
+  by Role.Parameter = []
+  by (Role.Uses space) = used (scope_of modules tree) tree number mark.regions space name
+  by (Role.Declares space) = declared_there tree number mark.regions space name.text
+  by Role.GoesOn = declared_there tree number mark.regions Space.Value name.text
+  by Role.Signs = declared_there tree number mark.regions Space.Value name.text
+  by (Role.Fixes space) = declared_there tree number mark.regions space name.text
+  by role = globals (listed modules tree role name)
 
 -- the binders of all lexemes of a module, in order
 abbrev pub all_candidates : List Module → ℕ → Module → List (List Binder)

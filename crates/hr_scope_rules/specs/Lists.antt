@@ -45,15 +45,15 @@ hidden_strip origin (Imported.Type name members) = one (Role.Hidden origin) name
 abbrev pub import_names_strip : ℕ → Option ImportNames → Strip
 import_names_strip origin None = bare []
 import_names_strip origin (Some names) = by names.hiding where
-    by : Option Item → Strip
-    by None = names_strip (imported_strip origin) names.list
-    by (Some word) = bare (word ∷ []) ▷ names_strip (hidden_strip origin) names.list
+  by : Option Item → Strip
+  by None = names_strip (imported_strip origin) names.list
+  by (Some word) = bare (word ∷ []) ▷ names_strip (hidden_strip origin) names.list
 
 abbrev pub import_strip : Import → Strip
 import_strip import =
     let opening = import.word ∷ maybe_item import.qualified in
     placed (λ start regions.
-      bare opening ▷ bare (import.«module» ∷ []) ▷ bare (maybe_alias import.alias) ▷ import_names_strip (start + length opening) import.names)
+    bare opening ▷ bare (import.«module» ∷ []) ▷ bare (maybe_alias import.alias) ▷ import_names_strip (start + length opening) import.names)
 
 abbrev pub exports_strip : Option (NameList Export) → Strip
 exports_strip None = bare []

@@ -56,10 +56,10 @@ own_entities tree = undeclared_of (module_name tree) ++ flat_map (declared_at (m
 abbrev pub constructed : List ℕ → List Mark → List (List ℕ × List ℕ)
 constructed ty [] = []
 constructed ty (mark ∷ rest) = by mark.role mark.regions (constructed mark.item.lexeme.text rest) (constructed ty rest) where
-    by : Role → List Region → List (List ℕ × List ℕ) → List (List ℕ × List ℕ) → List (List ℕ × List ℕ)
-    by (Role.Declares Space.TypeName) [] of_this of_that = of_this
-    by (Role.Declares Space.Constructor) [] of_this of_that = (ty, mark.item.lexeme.text) ∷ of_that
-    by role regions of_this of_that = of_that
+  by : Role → List Region → List (List ℕ × List ℕ) → List (List ℕ × List ℕ) → List (List ℕ × List ℕ)
+  by (Role.Declares Space.TypeName) [] of_this of_that = of_this
+  by (Role.Declares Space.Constructor) [] of_this of_that = (ty, mark.item.lexeme.text) ∷ of_that
+  by role regions of_this of_that = of_that
 
 -- an entity is a constructor of a type: a part of it, which a list can name with it
 pub record IsPart (modules : List Module) (ty : Entity) (part : Entity) : Type 0 where

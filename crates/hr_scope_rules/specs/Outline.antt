@@ -105,9 +105,9 @@ left_side_strip role inside left = bare left.opens ▷ left_head_strip role insi
 
 abbrev pub left_text : LeftSide → List ℕ
 left_text left = by left.head where
-    by : LeftHead → List ℕ
-    by (LeftHead.Prefix variable patterns) = variable_text variable
-    by (LeftHead.Infix first operator second) = operator_text operator
+  by : LeftHead → List ℕ
+  by (LeftHead.Prefix variable patterns) = variable_text variable
+  by (LeftHead.Infix first operator second) = operator_text operator
 
 abbrev pub decl_layer : Decl-F Declared Strip Qualified Strip → Declared
 decl_layer (Decl-F.Import import) = alone (import_strip import)
@@ -121,9 +121,9 @@ decl_layer (Decl-F.Fixity word level operators) =
 decl_layer (Decl-F.Equation left body locals) = record {
   equation = Some (left_text left);
   strip = λ goes_on. placed (λ start regions.
-    let inside = entered start 0 regions in
-    let deeper = in_where locals start inside in
-    left_side_strip (if goes_on then Role.GoesOn else Role.Declares Space.Value) inside left ▷ within deeper (body_strip body ▷ where_strip locals));
+      let inside = entered start 0 regions in
+      let deeper = in_where locals start inside in
+      left_side_strip (if goes_on then Role.GoesOn else Role.Declares Space.Value) inside left ▷ within deeper (body_strip body ▷ where_strip locals));
 }
 decl_layer (Decl-F.Binding pattern body locals) =
     alone (placed (λ start regions. pat_strip pattern ▷ within (in_where locals start regions) (body_strip body ▷ where_strip locals)))

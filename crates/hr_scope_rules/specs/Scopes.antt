@@ -118,10 +118,11 @@ in_scope_as scope qualifier entity = list_any (λ one. same_qualifier one.0 qual
 abbrev pub item_exports : List (Entity × Entity) → List Scoped → Export → List Entity
 item_exports parts scope (Export.Variable variable) = standing scope Space.Value (name_of (lexeme_of variable).lexeme)
 item_exports parts scope (Export.Type name members) = types ++ flat_map members_of types where
-    types : List Entity
-    types = standing scope Space.TypeName (name_of name.lexeme)
-    members_of : Entity → List Entity
-    members_of ty = map (λ one. one.1) (filter (λ one. is_part parts ty one.1 && selects members one.1.text) scope)
+  types : List Entity
+  types = standing scope Space.TypeName (name_of name.lexeme)
+
+  members_of : Entity → List Entity
+  members_of ty = map (λ one. one.1) (filter (λ one. is_part parts ty one.1 && selects members one.1.text) scope)
 item_exports parts scope (Export.«Module» word name) =
     filter (in_scope_as scope (Some name.lexeme.text)) (map (λ one. one.1) (filter (λ one. same_qualifier one.0 None) scope))
 

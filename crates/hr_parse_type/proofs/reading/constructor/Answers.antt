@@ -9,5 +9,5 @@ use Rattle.hr_parse_type.proofs.reading.constructor.Goals as goal
 pub returns-clause-reads : goal.returns-clause-reads
 returns-clause-reads c =
     let named : Spells IsTypeConstructor constructor_items (Constructor.Name c.in_ok-name.name) c.args.cursor.now c.expect_sort.new.cursor =
-        record { is = c.in_ok-name.ensures.is; taken = taken c.in_ok-name.ensures (nothing_taken _) } in
+    record { is = c.in_ok-name.ensures.is; taken = taken c.in_ok-name.ensures (nothing_taken _) } in
     made_name c.new.ensures named
