@@ -5,6 +5,7 @@ use Rattle.hr_base.specs.declared.lexeme.Class.{Class}
 use Rattle.hr_base.specs.declared.lexeme.Item.{Item}
 use Rattle.hr_tree.specs.declared.modules.NameList.{NameList}
 use Rattle.hr_tree.specs.declared.modules.Export.{Export}
+use Rattle.hr_tree.specs.declared.modules.Member.{Member}
 use Rattle.hr_tree.specs.declared.modules.Members.{Members}
 use Rattle.hr_tree.specs.declared.modules.Import.{Import}
 use Rattle.hr_tree.specs.declared.modules.Alias.{Alias}
@@ -14,11 +15,16 @@ use Rattle.hr_grammar.specs.Words.{IsOf, IsWord, IsImportWord, IsLeftParen, IsRi
 use Rattle.hr_grammar.specs.Spelled.{Maybe, IsVariable, IsNamedVariable, IsOwnConstructor}
 use Rattle.hr_grammar.specs.Separated.{AreSeparated}
 
+-- a constructor alone: labelled fields are not of the grammar yet, so no tree has one as a member
+abbrev pub IsMember : Member → Type 0
+IsMember (Member.Constructor constructor) = IsOwnConstructor constructor
+IsMember (Member.Field variable) = ⊥
+
 -- the constructors that are named with a type: all of them, or some, also none
 abbrev pub AreTypeMembers : Option Members → Type 0
 AreTypeMembers None = Unit {0}
 AreTypeMembers (Some (Members.All left dots right)) = IsLeftParen left × (IsDots dots × IsRightParen right)
-AreTypeMembers (Some (Members.Named left list right)) = IsLeftParen left × (AreSeparated IsComma IsOwnConstructor list × IsRightParen right)
+AreTypeMembers (Some (Members.Named left list right)) = IsLeftParen left × (AreSeparated IsComma IsMember list × IsRightParen right)
 
 -- names in parentheses: none or more, and then perhaps a comma
 abbrev pub IsNameList : {T : Type 0} → (T → Type 0) → NameList T → Type 0

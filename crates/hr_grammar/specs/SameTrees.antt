@@ -35,6 +35,7 @@ use Rattle.hr_tree.specs.declared.expressions.Decl.TheOpen.{Decl-F, Exp-F, Quali
 use Rattle.hr_tree.specs.declared.expressions.Decl.TheFolds.{fold-Decl}
 use Rattle.hr_tree.specs.declared.modules.NameList.{NameList}
 use Rattle.hr_tree.specs.declared.modules.Export.{Export}
+use Rattle.hr_tree.specs.declared.modules.Member.{Member}
 use Rattle.hr_tree.specs.declared.modules.Members.{Members}
 use Rattle.hr_tree.specs.declared.modules.Import.{Import}
 use Rattle.hr_tree.specs.declared.modules.Alias.{Alias}
@@ -161,9 +162,13 @@ bare_closed closed = record { right = bare closed.right; patterns = map bare_pat
 abbrev pub bare_left_side : LeftSide → LeftSide
 bare_left_side left = record { opens = map bare left.opens; head = bare_left_head left.head; closes = map bare_closed left.closes }
 
+abbrev pub bare_member : Member → Member
+bare_member (Member.Constructor constructor) = Member.Constructor (bare_constructor constructor)
+bare_member (Member.Field variable) = Member.Field (bare_variable variable)
+
 abbrev pub bare_members : Members → Members
 bare_members (Members.All left dots right) = Members.All (bare left) (bare dots) (bare right)
-bare_members (Members.Named left list right) = Members.Named (bare left) (bare_listed bare_constructor list) (bare right)
+bare_members (Members.Named left list right) = Members.Named (bare left) (bare_listed bare_member list) (bare right)
 
 abbrev pub bare_names : {T : Type 0} → (T → T) → NameList T → NameList T
 bare_names of names = record { left = bare names.left; list = bare_listed of names.list; last_comma = option_map bare names.last_comma; right = bare names.right }

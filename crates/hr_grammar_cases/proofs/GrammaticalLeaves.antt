@@ -9,26 +9,26 @@ use Rattle.hr_tree.specs.declared.patterns.Pat.{Pat}
 use Rattle.hr_tree.specs.declared.patterns.Pat.TheOpen.{Pat-F}
 use Rattle.hr_tree.specs.declared.modules.NameList.{NameList}
 use Rattle.hr_tree.specs.declared.modules.Export.{Export}
+use Rattle.hr_tree.specs.declared.modules.Member.{Member}
 use Rattle.hr_tree.specs.declared.modules.Members.{Members}
 use Rattle.hr_tree.specs.declared.modules.Alias.{Alias}
 use Rattle.hr_tree.specs.declared.modules.ImportNames.{ImportNames}
 use Rattle.hr_tree.specs.declared.modules.Imported.{Imported}
 use Rattle.hr_tree.specs.declared.modules.Header.{Header}
-use Rattle.hr_tree.specs.Names.{constructor_items}
 use Rattle.hr_grammar.specs.Words.{IsImportWord, IsComma}
-use Rattle.hr_grammar.specs.Spelled.{IsOwnConstructor, IsConstructorOperator}
+use Rattle.hr_grammar.specs.Spelled.{IsConstructorOperator}
 use Rattle.hr_grammar.specs.Nodes.{Nodes, TyPlace, PatPlace}
 use Rattle.hr_grammar.specs.Types.{TyProduction}
 use Rattle.hr_grammar.specs.Patterns.{ArePatOperands, PatProduction}
-use Rattle.hr_grammar.specs.Imports.{AreTypeMembers, IsNameList, IsExport, AreExports, IsImported, IsAlias, AreImportNames, IsImport}
+use Rattle.hr_grammar.specs.Imports.{IsMember, AreTypeMembers, IsNameList, IsExport, AreExports, IsImported, IsAlias, AreImportNames, IsImport}
 use Rattle.hr_grammar.specs.Yields.{IsHeader}
 use Rattle.hr_grammar_cases.specs.Readings.{Reading, maybe}
 use Rattle.hr_grammar_cases.specs.Derivations.{Derivations}
 use Rattle.hr_grammar_cases.specs.Types.{ty_reading}
 use Rattle.hr_grammar_cases.specs.Patterns.{pat_operands, pat_reading}
-use Rattle.hr_grammar_cases.specs.Imports.{members_reading, name_list_reading, export_reading, imported_reading, alias_reading, import_names_reading, import_reading, header_reading}
+use Rattle.hr_grammar_cases.specs.Imports.{member_reading, members_reading, name_list_reading, export_reading, imported_reading, alias_reading, import_names_reading, import_reading, header_reading}
 use Rattle.hr_grammar_cases.specs.Laws.{AllAre}
-use Rattle.hr_grammar_cases.proofs.Grammatical.{Are, spelled_are, maybe_is, operator_is, in_turn_are, separated_are}
+use Rattle.hr_grammar_cases.proofs.Grammatical.{Are, maybe_is, operator_is, in_turn_are, separated_are}
 
 pub ty_is : (read : Derivations) (allowed : Nodes) → AllAre read allowed → (n : ℕ) (place : TyPlace) (layer : Ty-F Ty) (ts us : List Placed)
     → ty_reading read n place layer ts us → TyProduction allowed place layer
@@ -73,11 +73,15 @@ pat_is read allowed each n place (Pat-F.Apply named arguments) ts us r =
 pat_is read allowed each n place (Pat-F.Infix operands) ts us r = (r.0.0, r.0.1, pat_operands_are read allowed each n operands ts us r.1)
 pat_is read allowed each n place (Pat-F.Fields named left fields right) ts us r = r
 
+member_is : (n : ℕ) → Are (member_reading n) IsMember
+member_is n (Member.Constructor constructor) ts us r = r.0
+member_is n (Member.Field variable) ts us r = r
+
 members_are : (n : ℕ) (members : Option Members) (ts us : List Placed) → maybe (members_reading n) members ts us → AreTypeMembers members
 members_are n None ts us r = tt
 members_are n (Some (Members.All left dots right)) ts us r = (r.1.0, (r.2.1.0, r.2.2.0))
 members_are n (Some (Members.Named left list right)) ts us r =
-    (r.1.0, (separated_are n IsComma _ IsOwnConstructor (spelled_are n IsOwnConstructor constructor_items) list r.0 r.2.0 r.2.1, r.2.2.0))
+    (r.1.0, (separated_are n IsComma _ IsMember (member_is n) list r.0 r.2.0 r.2.1, r.2.2.0))
 
 name_list_is : {T : Type 0} (n : ℕ) (of : T → Reading) (Is : T → Type 0) → Are of Is → (names : NameList T) (ts us : List Placed) → name_list_reading n of names ts us → IsNameList Is names
 name_list_is n of Is each names ts us r =

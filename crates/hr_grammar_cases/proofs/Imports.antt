@@ -5,6 +5,7 @@ use Rattle.hr_base.specs.declared.lexeme.Class.{Class}
 use Rattle.hr_base.specs.declared.lexeme.Item.{Item}
 use Rattle.hr_tree.specs.declared.modules.NameList.{NameList}
 use Rattle.hr_tree.specs.declared.modules.Export.{Export}
+use Rattle.hr_tree.specs.declared.modules.Member.{Member}
 use Rattle.hr_tree.specs.declared.modules.Members.{Members}
 use Rattle.hr_tree.specs.declared.modules.Import.{Import}
 use Rattle.hr_tree.specs.declared.modules.Alias.{Alias}
@@ -12,20 +13,24 @@ use Rattle.hr_tree.specs.declared.modules.ImportNames.{ImportNames}
 use Rattle.hr_tree.specs.declared.modules.Imported.{Imported}
 use Rattle.hr_tree.specs.declared.modules.Header.{Header}
 use Rattle.hr_tree.specs.Names.{variable_items, constructor_items}
-use Rattle.hr_tree.specs.Yields.{maybe_members, export_items, imported_items, name_list_items, maybe_alias, maybe_import_names, import_items, maybe_exports, header_items}
+use Rattle.hr_tree.specs.Yields.{member_items, maybe_members, export_items, imported_items, name_list_items, maybe_alias, maybe_import_names, import_items, maybe_exports, header_items}
 use Rattle.hr_grammar.specs.Words.{IsOf, IsWord, IsImportWord, IsLeftParen, IsRightParen, IsComma, IsDots}
 use Rattle.hr_grammar.specs.Spelled.{IsVariable, IsNamedVariable, IsOwnConstructor}
 use Rattle.hr_grammar.specs.Imports.{IsTypeName}
 use Rattle.hr_grammar_cases.specs.Readings.{Reading, maybe}
-use Rattle.hr_grammar_cases.specs.Imports.{members_reading, name_list_reading, export_reading, imported_reading, alias_reading, import_names_reading, import_reading, header_reading}
+use Rattle.hr_grammar_cases.specs.Imports.{member_reading, members_reading, name_list_reading, export_reading, imported_reading, alias_reading, import_names_reading, import_reading, header_reading}
 use Rattle.hr_grammar_cases.specs.Laws.{ImportsGive}
-use Rattle.hr_grammar_cases.proofs.Taken.{Takes, taken_gives, nothing_takes, then_takes, one_takes, spelled_takes, maybe_one_takes, separated_takes}
+use Rattle.hr_grammar_cases.proofs.Taken.{Takes, taken_gives, nothing_takes, never_takes, then_takes, one_takes, spelled_takes, maybe_one_takes, separated_takes}
+
+member_takes : (n : ℕ) (member : Member) → Takes n (member_items member) (member_reading n member)
+member_takes n (Member.Constructor constructor) = spelled_takes n IsOwnConstructor constructor_items constructor
+member_takes n (Member.Field variable) = never_takes
 
 members_take : (n : ℕ) (members : Option Members) → Takes n (maybe_members members) (maybe (members_reading n) members)
 members_take n None = nothing_takes
 members_take n (Some (Members.All left dots right)) = then_takes (one_takes n IsLeftParen left) (then_takes (one_takes n IsDots dots) (one_takes n IsRightParen right))
 members_take n (Some (Members.Named left list right)) =
-    then_takes (one_takes n IsLeftParen left) (then_takes (separated_takes n IsComma constructor_items _ (spelled_takes n IsOwnConstructor constructor_items) list) (one_takes n IsRightParen right))
+    then_takes (one_takes n IsLeftParen left) (then_takes (separated_takes n IsComma member_items _ (member_takes n) list) (one_takes n IsRightParen right))
 
 name_list_takes : {T : Type 0} (n : ℕ) (items_of : T → List Item) (of : T → Reading) → ((x : T) → Takes n (items_of x) (of x))
     → (names : NameList T) → Takes n (name_list_items items_of names) (name_list_reading n of names)

@@ -4,6 +4,7 @@ use lib.Chars.{codes}
 use Rattle.hr_base.specs.declared.lexeme.Class.{Class}
 use Rattle.hr_tree.specs.declared.modules.NameList.{NameList}
 use Rattle.hr_tree.specs.declared.modules.Export.{Export}
+use Rattle.hr_tree.specs.declared.modules.Member.{Member}
 use Rattle.hr_tree.specs.declared.modules.Members.{Members}
 use Rattle.hr_tree.specs.declared.modules.Import.{Import}
 use Rattle.hr_tree.specs.declared.modules.Alias.{Alias}
@@ -14,13 +15,18 @@ use Rattle.hr_tree.specs.Names.{variable_items, constructor_items}
 use Rattle.hr_grammar.specs.Words.{IsOf, IsWord, IsImportWord, IsLeftParen, IsRightParen, IsComma, IsDots}
 use Rattle.hr_grammar.specs.Spelled.{IsVariable, IsNamedVariable, IsOwnConstructor}
 use Rattle.hr_grammar.specs.Imports.{IsTypeName}
-use Rattle.hr_grammar_cases.specs.Readings.{Reading, ◌▷◌, one, spelled, maybe, separated}
+use Rattle.hr_grammar_cases.specs.Readings.{Reading, never, ◌▷◌, one, spelled, maybe, separated}
+
+-- a constructor alone: a field is read by no tree
+abbrev pub member_reading : ℕ → Member → Reading
+member_reading n (Member.Constructor constructor) = spelled n IsOwnConstructor constructor_items constructor
+member_reading n (Member.Field variable) = never
 
 -- the constructors that are named with a type: all of them, or some, also none
 abbrev pub members_reading : ℕ → Members → Reading
 members_reading n (Members.All left dots right) = one n IsLeftParen left ▷ one n IsDots dots ▷ one n IsRightParen right
 members_reading n (Members.Named left list right) =
-    one n IsLeftParen left ▷ separated (one n IsComma) (spelled n IsOwnConstructor constructor_items) list ▷ one n IsRightParen right
+    one n IsLeftParen left ▷ separated (one n IsComma) (member_reading n) list ▷ one n IsRightParen right
 
 -- names in parentheses: none or more, and then perhaps a comma
 abbrev pub name_list_reading : {T : Type 0} → ℕ → (T → Reading) → NameList T → Reading

@@ -20,6 +20,7 @@ use Rattle.hr_tree.specs.declared.declarations.LeftHead.{LeftHead}
 use Rattle.hr_tree.specs.declared.declarations.Closed.{Closed}
 use Rattle.hr_tree.specs.declared.modules.NameList.{NameList}
 use Rattle.hr_tree.specs.declared.modules.Export.{Export}
+use Rattle.hr_tree.specs.declared.modules.Member.{Member}
 use Rattle.hr_tree.specs.declared.modules.Members.{Members}
 use Rattle.hr_tree.specs.declared.modules.Import.{Import}
 use Rattle.hr_tree.specs.declared.modules.Alias.{Alias}
@@ -28,7 +29,7 @@ use Rattle.hr_tree.specs.declared.modules.Imported.{Imported}
 use Rattle.hr_tree.specs.declared.modules.Header.{Header}
 use Rattle.hr_tree.specs.Names.{maybe_operator, variable_items, constructor_items, operator_items}
 use Rattle.hr_tree.specs.Lists.{operand_items}
-use Rattle.hr_tree.specs.Yields.{ty_layer, ty_items, pat_layer, pat_items, type_head_items, construction_items, left_head_items, closed_items, left_side_items, maybe_members, export_items, imported_items, name_list_items, maybe_alias, maybe_import_names, import_items, maybe_exports, header_items}
+use Rattle.hr_tree.specs.Yields.{ty_layer, ty_items, pat_layer, pat_items, type_head_items, construction_items, left_head_items, closed_items, left_side_items, member_items, maybe_members, export_items, imported_items, name_list_items, maybe_alias, maybe_import_names, import_items, maybe_exports, header_items}
 use Rattle.hr_tree.proofs.TypeYields.{ty_apply, ty_tuple}
 use Rattle.hr_tree.proofs.PatternYields.{pat_apply, pat_infix, pat_tuple, pat_list}
 use Rattle.hr_grammar.specs.Words.{IsOf, IsWord, IsReserved, IsLiteral, IsMinus, IsInteger, IsImportWord, IsLeftParen, IsRightParen, IsLeftSquare, IsRightSquare, IsComma, IsArrow, IsDots}
@@ -37,14 +38,14 @@ use Rattle.hr_grammar.specs.Nodes.{Nodes, TyPlace, PatPlace}
 use Rattle.hr_grammar.specs.Types.{TyProduction}
 use Rattle.hr_grammar.specs.Patterns.{ArePatOperands, PatProduction}
 use Rattle.hr_grammar.specs.Declarations.{IsTypeHead, IsConstructionOver, IsNewConstructionOver, AreArgumentsOver, IsLeftHeadOver, IsClosedOver, IsLeftSideOver}
-use Rattle.hr_grammar.specs.Imports.{AreTypeMembers, IsNameList, IsTypeName, IsExport, AreExports, IsImported, IsAlias, AreImportNames, IsImport}
+use Rattle.hr_grammar.specs.Imports.{IsMember, AreTypeMembers, IsNameList, IsTypeName, IsExport, AreExports, IsImported, IsAlias, AreImportNames, IsImport}
 use Rattle.hr_grammar.specs.Yields.{nodes, IsHeader}
 use Rattle.hr_grammar_cases.specs.Readings.{Reading, maybe}
 use Rattle.hr_grammar_cases.specs.Derivations.{Derivations}
 use Rattle.hr_grammar_cases.specs.Types.{ty_reading}
 use Rattle.hr_grammar_cases.specs.Patterns.{pat_operands, pat_reading}
 use Rattle.hr_grammar_cases.specs.Declarations.{type_head_reading, construction_reading, new_construction_reading, arguments_reading, left_head_reading, closed_reading, left_side_reading}
-use Rattle.hr_grammar_cases.specs.Imports.{members_reading, name_list_reading, export_reading, imported_reading, alias_reading, import_names_reading, import_reading, header_reading}
+use Rattle.hr_grammar_cases.specs.Imports.{member_reading, members_reading, name_list_reading, export_reading, imported_reading, alias_reading, import_names_reading, import_reading, header_reading}
 use Rattle.hr_grammar_cases.specs.Modules.{derivations}
 use Rattle.hr_grammar_cases.proofs.Readings.{append_assoc}
 use Rattle.hr_grammar_cases.proofs.Taken.{last_operand}
@@ -189,13 +190,17 @@ left_side_retakes below allowed each n left is =
     (in_turn_retakes closed_items (closed_reading below n) (IsClosedOver allowed) (closed_retakes below allowed each n) left.closes is.1.1.0)))
 
 -- ---- imports and headers
+member_retakes : (n : ℕ) (member : Member) → IsMember member → Retakes n (member_items member) (member_reading n member)
+member_retakes n (Member.Constructor constructor) is = spelled_retakes n IsOwnConstructor constructor_items constructor is
+member_retakes n (Member.Field variable) is = elim is [ ]
+
 members_retake : (n : ℕ) (members : Option Members) → AreTypeMembers members → Retakes n (maybe_members members) (maybe (members_reading n) members)
 members_retake n None are = nothing_retakes
 members_retake n (Some (Members.All left dots right)) are =
     then_retakes (one_retakes n IsLeftParen left are.0) (then_retakes (one_retakes n IsDots dots are.1.0) (one_retakes n IsRightParen right are.1.1))
 members_retake n (Some (Members.Named left list right)) are =
     then_retakes (one_retakes n IsLeftParen left are.0)
-    (then_retakes (separated_retakes n IsComma constructor_items _ IsOwnConstructor (spelled_retakes n IsOwnConstructor constructor_items) list are.1.0) (one_retakes n IsRightParen right are.1.1))
+    (then_retakes (separated_retakes n IsComma member_items _ IsMember (member_retakes n) list are.1.0) (one_retakes n IsRightParen right are.1.1))
 
 name_list_retakes : {T : Type 0} (n : ℕ) (items_of : T → List Item) (of : T → Reading) (Is : T → Type 0) → ((x : T) → Is x → Retakes n (items_of x) (of x))
     → (names : NameList T) → IsNameList Is names → Retakes n (name_list_items items_of names) (name_list_reading n of names)

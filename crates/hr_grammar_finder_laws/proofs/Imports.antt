@@ -5,30 +5,42 @@ use Rattle.hr_base.specs.declared.lexeme.Class.{Class}
 use Rattle.hr_base.specs.declared.lexeme.Item.{Item}
 use Rattle.hr_rules.specs.declared.block.Placed.{Placed}
 use Rattle.hr_tree.specs.declared.lists.Listed.{Listed}
-use Rattle.hr_tree.specs.declared.names.Constructor.{Constructor}
 use Rattle.hr_tree.specs.declared.modules.Export.{Export}
+use Rattle.hr_tree.specs.declared.modules.Member.{Member}
 use Rattle.hr_tree.specs.declared.modules.Members.{Members}
 use Rattle.hr_tree.specs.declared.modules.Imported.{Imported}
-use Rattle.hr_tree.specs.Names.{constructor_items}
 use Rattle.hr_grammar.specs.Spelled.{IsVariable, IsNamedVariable, IsOwnConstructor}
 use Rattle.hr_grammar.specs.Words.{IsOf, IsWord, IsComma, IsDots, IsLeftParen, IsRightParen}
 use Rattle.hr_grammar.specs.Imports.{IsTypeName}
-use Rattle.hr_grammar_cases.specs.Readings.{Reading, spelled}
+use Rattle.hr_grammar_cases.specs.Readings.{Reading}
 use Rattle.hr_grammar_cases.specs.Readings as reading
-use Rattle.hr_grammar_cases.specs.Imports.{members_reading, name_list_reading, export_reading, imported_reading, alias_reading, import_names_reading, import_reading, header_reading}
+use Rattle.hr_grammar_cases.specs.Imports.{member_reading, members_reading, name_list_reading, export_reading, imported_reading, alias_reading, import_names_reading, import_reading, header_reading}
 use Rattle.hr_grammar_finder_laws.specs.Ways.{Among, Way, Finder}
-use Rattle.hr_grammar_finder_laws.specs.Imports.{member_ways, members, names_of, name_list, export_ways, exports, imported_ways, imported, alias_of, aliases, import_names_of, import_names, import_of, imports, header_of, headers}
-use Rattle.hr_grammar_finder_laws.proofs.Ways.{Matches, Production, any_sound, chosen, produced, sound_production, made_matches, one_matches, then_matches, maybe_matches}
+use Rattle.hr_grammar_finder_laws.specs.Names.{own_constructors}
+use Rattle.hr_grammar_finder_laws.specs.Imports.{member, member_ways, members, names_of, name_list, export_ways, exports, imported_ways, imported, alias_of, aliases, import_names_of, import_names, import_of, imports, header_of, headers}
+use Rattle.hr_grammar_finder_laws.proofs.Ways.{Matches, Production, is_sound, made_sound, made_found, any_sound, chosen, produced, sound_production, made_matches, one_matches, then_matches, maybe_matches}
 use Rattle.hr_grammar_finder_laws.proofs.Tests.{tests_of, tests_word, tests_import_word, tests_reserved, tests_special, tests_two}
 use Rattle.hr_grammar_finder_laws.proofs.Lists.{Shrinks, separated_matches}
 use Rattle.hr_grammar_finder_laws.proofs.Takes.{some, first_takes, both_stay, one_takes, maybe_stays, separated_stays}
 use Rattle.hr_grammar_finder_laws.proofs.Names.{one_shrinks, variable_shrinks, constructor_shrinks, variables_match, named_variables_match, own_constructors_match}
 
 -- members
+member_complete : (n : ℕ) (x : Member) (ts us : List Placed) → member_reading n x ts us → Among {T = Way Member} (x, us) (member n ts)
+member_complete n (Member.Constructor constructor) ts us r =
+    made_found Member.Constructor (own_constructors n) constructor ts us ((own_constructors_match n).complete constructor ts us r)
+member_complete n (Member.Field variable) ts us r = elim r [ ]
+
+member_matches : (n : ℕ) → Matches (member_reading n) (member n)
+member_matches n = record { sound = (made_sound {R = member_reading n} Member.Constructor (is_sound (own_constructors_match n))).sound; complete = member_complete n }
+
+member_shrinks : (n : ℕ) → Shrinks (member_reading n)
+member_shrinks n (Member.Constructor constructor) ts us r = constructor_shrinks n IsOwnConstructor constructor ts us r
+member_shrinks n (Member.Field variable) ts us r = elim r [ ]
+
 abbrev all_of : Item × (Item × Item) → Members
 all_of p = Members.All p.0 p.1.0 p.1.1
 
-abbrev named_of : Item × (List (Listed Constructor) × Item) → Members
+abbrev named_of : Item × (List (Listed Member) × Item) → Members
 named_of p = Members.Named p.0 p.1.0 p.1.1
 
 abbrev all_members : (n : ℕ) → Production (members_reading n) all_of
@@ -38,7 +50,7 @@ abbrev named_members : (n : ℕ) → Production (members_reading n) named_of
 named_members n = (
   _,
   then_matches (one_matches n (tests_special (codes "(")))
-      (then_matches (separated_matches (one_matches n (tests_special (codes ","))) (own_constructors_match n) (one_shrinks n IsComma) (constructor_shrinks n IsOwnConstructor))
+      (then_matches (separated_matches (one_matches n (tests_special (codes ","))) (member_matches n) (one_shrinks n IsComma) (member_shrinks n))
       (one_matches n (tests_special (codes ")")))),
 )
 
@@ -93,7 +105,7 @@ members_shrink n (Members.All left dots right) =
     (first_takes (one_takes n IsLeftParen left) (both_stay (some (one_takes n IsDots dots)) (some (one_takes n IsRightParen right)))).fewer
 members_shrink n (Members.Named left list right) =
     (first_takes (one_takes n IsLeftParen left)
-    (both_stay (separated_stays (reading.one n IsComma) (spelled n IsOwnConstructor constructor_items) (one_shrinks n IsComma) (constructor_shrinks n IsOwnConstructor) list) (some (one_takes n IsRightParen right)))).fewer
+    (both_stay (separated_stays (reading.one n IsComma) (member_reading n) (one_shrinks n IsComma) (member_shrinks n) list) (some (one_takes n IsRightParen right)))).fewer
 
 exports_shrink : (n : ℕ) → Shrinks (export_reading n)
 exports_shrink n (Export.Variable variable) = variable_shrinks n IsNamedVariable variable

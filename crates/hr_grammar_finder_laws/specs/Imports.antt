@@ -6,6 +6,7 @@ use Rattle.hr_base.specs.declared.lexeme.Item.{Item}
 use Rattle.hr_tree.specs.declared.lists.Listed.{Listed}
 use Rattle.hr_tree.specs.declared.modules.NameList.{NameList}
 use Rattle.hr_tree.specs.declared.modules.Export.{Export}
+use Rattle.hr_tree.specs.declared.modules.Member.{Member}
 use Rattle.hr_tree.specs.declared.modules.Members.{Members}
 use Rattle.hr_tree.specs.declared.modules.Import.{Import}
 use Rattle.hr_tree.specs.declared.modules.Alias.{Alias}
@@ -16,12 +17,16 @@ use Rattle.hr_grammar_finder_laws.specs.Ways.{Finder, any_of, made_by, ◌▶◌
 use Rattle.hr_grammar_finder_laws.specs.Tests.{is_of, is_word, is_import_word, is_special, is_reserved, is_either}
 use Rattle.hr_grammar_finder_laws.specs.Names.{variables, named_variables, own_constructors}
 
+-- a constructor alone
+abbrev pub member : ℕ → Finder Member
+member n = made_by Member.Constructor (own_constructors n)
+
 -- the constructors that are named with a type
 abbrev pub member_ways : ℕ → List (Finder Members)
 member_ways n =
     made_by (λ p. Members.All p.0 p.1.0 p.1.1) (one n (is_special (codes "(")) ▶ one n (is_reserved (codes "..")) ▶ one n (is_special (codes ")")))
     ∷ made_by (λ p. Members.Named p.0 p.1.0 p.1.1)
-    (one n (is_special (codes "(")) ▶ separated (one n (is_special (codes ","))) (own_constructors n) ▶ one n (is_special (codes ")")))
+    (one n (is_special (codes "(")) ▶ separated (one n (is_special (codes ","))) (member n) ▶ one n (is_special (codes ")")))
     ∷ []
 
 abbrev pub members : ℕ → Finder Members

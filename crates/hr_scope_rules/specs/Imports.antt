@@ -7,12 +7,12 @@ use Rattle.hr_base.specs.declared.bind.Space.{Space}
 use Rattle.hr_base.specs.declared.lexeme.Item.{Item}
 use Rattle.hr_tree.specs.declared.lists.Listed.{Listed}
 use Rattle.hr_tree.specs.declared.lists.Piece.{Piece}
-use Rattle.hr_tree.specs.declared.names.Constructor.{Constructor}
 use Rattle.hr_tree.specs.declared.expressions.Exp.{Exp}
 use Rattle.hr_tree.specs.declared.expressions.Qualifier.{Qualifier}
 use Rattle.hr_tree.specs.declared.expressions.Alt.{Alt}
 use Rattle.hr_tree.specs.declared.expressions.Decl.{Decl, out-Decl}
 use Rattle.hr_tree.specs.declared.expressions.Decl.TheOpen.{Decl-F}
+use Rattle.hr_tree.specs.declared.modules.Member.{Member}
 use Rattle.hr_tree.specs.declared.modules.Members.{Members}
 use Rattle.hr_tree.specs.declared.modules.Alias.{Alias}
 use Rattle.hr_tree.specs.declared.modules.Import.{Import}
@@ -66,9 +66,13 @@ accesses tree = by (bytes_eq (module_name tree) prelude) (list_any (λ access. b
   by false false = whole_prelude ∷ written
   by _ _ = written
 
--- which constructors are named with a type
-abbrev pub member_texts : List (Listed Constructor) → List (List ℕ)
-member_texts list = map (λ listed. constructor_text listed.part) list
+abbrev pub member_text : Member → List ℕ
+member_text (Member.Constructor constructor) = constructor_text constructor
+member_text (Member.Field variable) = variable_text variable
+
+-- what is named with a type
+abbrev pub member_texts : List (Listed Member) → List (List ℕ)
+member_texts list = map (λ listed. member_text listed.part) list
 
 abbrev pub Selects : Option Members → List ℕ → Type 0
 Selects None text = ⊥

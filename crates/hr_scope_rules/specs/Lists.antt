@@ -4,6 +4,7 @@ use Rattle.hr_base.specs.declared.bind.Space.{Space}
 use Rattle.hr_base.specs.declared.lexeme.Item.{Item}
 use Rattle.hr_tree.specs.declared.modules.NameList.{NameList}
 use Rattle.hr_tree.specs.declared.modules.Export.{Export}
+use Rattle.hr_tree.specs.declared.modules.Member.{Member}
 use Rattle.hr_tree.specs.declared.modules.Members.{Members}
 use Rattle.hr_tree.specs.declared.modules.Import.{Import}
 use Rattle.hr_tree.specs.declared.modules.ImportNames.{ImportNames}
@@ -16,12 +17,17 @@ use Rattle.hr_scope_rules.specs.Names.{role_by}
 use Rattle.hr_scope_rules.specs.Strips.{Strip, bare, one, ◌▷◌, placed}
 use Rattle.hr_scope_rules.specs.Phrases.{variable_strip, constructor_strip, listed_row}
 
--- of the constructors that are named with a type
+-- a field has the role of a constructor that is named with the type
+abbrev pub member_strip : Role → Member → Strip
+member_strip role (Member.Constructor constructor) = constructor_strip (λ item. role_by (λ space. role) item.lexeme.class) constructor
+member_strip role (Member.Field variable) = variable_strip (λ item. role) variable
+
+-- of what is named with a type
 abbrev pub members_strip : Role → Option Members → Strip
 members_strip role None = bare []
 members_strip role (Some (Members.All left dots right)) = bare (left ∷ dots ∷ right ∷ [])
 members_strip role (Some (Members.Named left list right)) =
-    bare (left ∷ []) ▷ listed_row (constructor_strip (λ item. role_by (λ space. role) item.lexeme.class)) list ▷ bare (right ∷ [])
+    bare (left ∷ []) ▷ listed_row (member_strip role) list ▷ bare (right ∷ [])
 
 -- an export item; the constructors of a type are found by the type's lexeme
 abbrev pub export_strip : Export → Strip

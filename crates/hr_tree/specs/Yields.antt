@@ -22,6 +22,7 @@ use Rattle.hr_tree.specs.declared.declarations.LeftHead.{LeftHead}
 use Rattle.hr_tree.specs.declared.declarations.Closed.{Closed}
 use Rattle.hr_tree.specs.declared.modules.NameList.{NameList}
 use Rattle.hr_tree.specs.declared.modules.Export.{Export}
+use Rattle.hr_tree.specs.declared.modules.Member.{Member}
 use Rattle.hr_tree.specs.declared.modules.Members.{Members}
 use Rattle.hr_tree.specs.declared.modules.Import.{Import}
 use Rattle.hr_tree.specs.declared.modules.Alias.{Alias}
@@ -89,9 +90,13 @@ closed_items closed = closed.right ∷ flat_map pat_items closed.patterns
 abbrev pub left_side_items : LeftSide → List Item
 left_side_items left = left.opens ++ (left_head_items left.head ++ flat_map closed_items left.closes)
 
+abbrev pub member_items : Member → List Item
+member_items (Member.Constructor constructor) = constructor_items constructor
+member_items (Member.Field variable) = variable_items variable
+
 abbrev pub members_items : Members → List Item
 members_items (Members.All left dots right) = left ∷ dots ∷ right ∷ []
-members_items (Members.Named left list right) = left ∷ (flat_map (listed_items constructor_items) list ++ right ∷ [])
+members_items (Members.Named left list right) = left ∷ (flat_map (listed_items member_items) list ++ right ∷ [])
 
 abbrev pub maybe_members : Option Members → List Item
 maybe_members None = []

@@ -18,7 +18,7 @@ pub use declarations::{
 pub use expressions::{Alt, Decl, Exp, Qualifier};
 pub use lists::{Block, Field, Layout, Listed, Operand, Piece};
 pub use modules::{
-    Alias, Export, Header, Import, ImportNames, Imported, Members, Module, NameList,
+    Alias, Export, Header, Import, ImportNames, Imported, Member, Members, Module, NameList,
 };
 pub use names::{Constructor, Operator, Variable};
 pub use patterns::Pat;

@@ -35,11 +35,19 @@ pub enum Export {
     Module(Item, Item),
 }
 
-/// The constructors that are named with a type: `(..)`, or some of them.
+/// What is named with a type: `(..)`, or some of its constructors and fields.
 #[derive(Drop)]
 pub enum Members {
     All(Item, Item, Item),
-    Named(Item, Seq<Listed<Constructor>>, Item),
+    Named(Item, Seq<Listed<Member>>, Item),
+}
+
+#[derive(Drop)]
+pub enum Member {
+    /// a constructor of the type
+    Constructor(Constructor),
+    /// a labelled field of the type
+    Field(Variable),
 }
 
 /// `import qualified M as N hiding (..)`

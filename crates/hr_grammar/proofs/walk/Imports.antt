@@ -7,28 +7,32 @@ use Rattle.hr_base.specs.declared.lexeme.Class.{Class}
 use Rattle.hr_base.specs.declared.lexeme.Item.{Item}
 use Rattle.hr_tree.specs.declared.modules.NameList.{NameList}
 use Rattle.hr_tree.specs.declared.modules.Export.{Export}
+use Rattle.hr_tree.specs.declared.modules.Member.{Member}
 use Rattle.hr_tree.specs.declared.modules.Members.{Members}
 use Rattle.hr_tree.specs.declared.modules.Import.{Import}
 use Rattle.hr_tree.specs.declared.modules.Alias.{Alias}
 use Rattle.hr_tree.specs.declared.modules.ImportNames.{ImportNames}
 use Rattle.hr_tree.specs.declared.modules.Imported.{Imported}
 use Rattle.hr_tree.specs.declared.modules.Header.{Header}
-use Rattle.hr_tree.specs.Names.{constructor_items, maybe_item}
+use Rattle.hr_tree.specs.Names.{maybe_item}
 use Rattle.hr_tree.specs.Lists.{listed_items}
-use Rattle.hr_tree.specs.Yields.{maybe_members, export_items, imported_items, name_list_items, maybe_alias, maybe_import_names, import_items, maybe_exports, header_items}
+use Rattle.hr_tree.specs.Yields.{member_items, maybe_members, export_items, imported_items, name_list_items, maybe_alias, maybe_import_names, import_items, maybe_exports, header_items}
 use Rattle.hr_grammar.specs.Words.{IsComma, IsImportWord}
-use Rattle.hr_grammar.specs.Spelled.{IsOwnConstructor}
-use Rattle.hr_grammar.specs.Imports.{AreTypeMembers, IsNameList, IsExport, AreExports, IsImported, IsAlias, AreImportNames, IsImport}
+use Rattle.hr_grammar.specs.Imports.{IsMember, AreTypeMembers, IsNameList, IsExport, AreExports, IsImported, IsAlias, AreImportNames, IsImport}
 use Rattle.hr_grammar.specs.Yields.{IsHeader}
 use Rattle.hr_grammar.proofs.walk.Rules.{InPatterns, InTrees}
 use Rattle.hr_grammar.proofs.walk.Lists.{put, maybe, separated}
 use Rattle.hr_grammar.proofs.walk.Names.{patterns_of, of_class, of_text, of_word, comma, large_name, own_constructor, variable, named_variable}
 
+member_keeps : {P : List Item → Type 0} → InPatterns P → (member : Member) → IsMember member → P (member_items member)
+member_keeps h (Member.Constructor named) is = own_constructor h named is
+member_keeps h (Member.Field named) is = elim is [ ]
+
 members_keep : {P : List Item → Type 0} → InPatterns P → (members : Option Members) → AreTypeMembers members → P (maybe_members members)
 members_keep h None is = h.joins.nothing
 members_keep h (Some (Members.All left dots right)) is = h.parens left right (dots ∷ []) is.0 is.1.1 (of_text h Class.ReservedOp (codes "..") dots is.1.0 refl)
 members_keep h (Some (Members.Named left list right)) is =
-    h.parens left right (flat_map (listed_items constructor_items) list) is.0 is.1.1 (separated h.joins constructor_items IsComma IsOwnConstructor (comma h) (own_constructor h) list is.1.0)
+    h.parens left right (flat_map (listed_items member_items) list) is.0 is.1.1 (separated h.joins member_items IsComma IsMember (comma h) (member_keeps h) list is.1.0)
 
 name_list_keeps : {P : List Item → Type 0} → InPatterns P → {T : Type 0} (of : T → List Item) (Is : T → Type 0) → ((part : T) → Is part → P (of part)) → (names : NameList T) → IsNameList Is names → P (name_list_items of names)
 name_list_keeps {P} h of Is each names is =

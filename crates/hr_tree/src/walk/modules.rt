@@ -1,16 +1,14 @@
 //! A module, its header and its imports.
 ghost use Rattle.std.specs.Prelude.{◌≡◌, OnOk, fold};
 ghost use Rattle.std.specs.List.{flat_map};
-ghost use Rattle.hr_tree.specs.Names.{constructor_items};
 ghost use Rattle.hr_tree.specs.Lists.{listed_items};
-ghost use Rattle.hr_tree.specs.Yields.{export_items, header_items, import_items, imported_items, maybe_alias, maybe_exports, maybe_import_names, maybe_members, module_items, name_list_items};
+ghost use Rattle.hr_tree.specs.Yields.{export_items, header_items, import_items, imported_items, maybe_alias, maybe_exports, maybe_import_names, maybe_members, member_items, module_items, name_list_items};
 
 use crate::walk::Visitor;
 use crate::walk::expressions::walk_decls;
 use crate::walk::names::{visit_maybe, visit_two, walk_constructor, walk_variable};
 use crate::{
-    Alias, Constructor, Export, Header, Import, ImportNames, Imported, Listed, Members, Module,
-    NameList,
+    Alias, Export, Header, Import, ImportNames, Imported, Listed, Member, Members, Module, NameList,
 };
 
 pub fn walk_module<V: Visitor>(tree: &Module, visitor: &mut V) -> Result<(), V::Fault>
@@ -88,24 +86,30 @@ fn walk_maybe_members<V: Visitor>(
         }
         Some(Members::Named(left, list, right)) => {
             visitor.visit(left)?;
-            walk_constructors(list.as_slice(), visitor)?;
+            walk_members(list.as_slice(), visitor)?;
             visitor.visit(right)
         }
         None => Ok(()),
     }
 }
 
-fn walk_constructors<V: Visitor>(
-    constructors: &[Listed<Constructor>],
-    visitor: &mut V,
-) -> Result<(), V::Fault>
-    ensures { OnOk result (visitor.new ≡ fold V.behind visitor.old (flat_map (listed_items constructor_items) constructors.now)) }
+fn walk_members<V: Visitor>(members: &[Listed<Member>], visitor: &mut V) -> Result<(), V::Fault>
+    ensures { OnOk result (visitor.new ≡ fold V.behind visitor.old (flat_map (listed_items member_items) members.now)) }
 {
-    for constructor in constructors {
-        walk_constructor(&constructor.part, visitor)?;
-        visit_maybe(&constructor.separator, visitor)?;
+    for member in members {
+        walk_member(&member.part, visitor)?;
+        visit_maybe(&member.separator, visitor)?;
     }
     Ok(())
+}
+
+fn walk_member<V: Visitor>(member: &Member, visitor: &mut V) -> Result<(), V::Fault>
+    ensures { OnOk result (visitor.new ≡ fold V.behind visitor.old (member_items member.now)) }
+{
+    match member {
+        Member::Constructor(constructor) => walk_constructor(constructor, visitor),
+        Member::Field(variable) => walk_variable(variable, visitor),
+    }
 }
 
 pub fn walk_import<V: Visitor>(import: &Import, visitor: &mut V) -> Result<(), V::Fault>
