@@ -67,6 +67,51 @@ pub fn applied_type(alloc: Global, cursor: &mut Cursor, depth: u32) -> Result<Me
     }
 }
 
+/// What begins with a parenthesis in a data declaration: a constructor operator in parentheses, or one side of an
+/// arrow.
+#[derive(Drop)]
+pub enum Begun {
+    Constructor(Held<Constructor>),
+    Type(Measured<Ty>),
+}
+
+pub fn constructor_or_type(
+    alloc: Global,
+    cursor: &mut Cursor,
+    depth: u32,
+) -> Result<Begun, Stop>
+    requires { depth ≤ 256 }
+{
+    nest(depth, 1)?;
+    let left = match type_parenthesis(alloc, cursor)? {
+        Bracket::Constructor(named) => return Ok(Begun::Type(with_arguments(alloc, cursor, depth, Held::new(named))?)),
+        Bracket::Open(left) => left,
+    };
+    if let Kind::ConstructorSymbol = kind_ahead(cursor) {
+        let symbol = expect_sort(cursor, Sort::ConstructorSymbol)?;
+        let right = expect(cursor, Mark::RightParen)?;
+        return Ok(Begun::Constructor(Held::new(Constructor::Symbol(
+            left, symbol, right,
+        ))));
+    }
+    match in_parentheses(alloc, cursor, depth, Bracket::Open(left))? {
+        Head::Named(named) => Ok(Begun::Type(with_arguments(alloc, cursor, depth, named)?)),
+        Head::Atom(ty) => Ok(Begun::Type(ty)),
+    }
+}
+
+fn with_arguments(
+    alloc: Global,
+    cursor: &mut Cursor,
+    depth: u32,
+    named: Held<Constructor>,
+) -> Result<Measured<Ty>, Stop>
+    requires { depth < 256 }
+{
+    let arguments = arguments(alloc, cursor, depth + 1)?;
+    Ok(applied(named, arguments))
+}
+
 /// An atomic type.
 pub fn atomic_type(alloc: Global, cursor: &mut Cursor, depth: u32) -> Result<Measured<Ty>, Stop>
     requires { depth ≤ 256 }
@@ -249,7 +294,7 @@ fn type_square(cursor: &mut Cursor) -> Result<Bracket, Stop>
 }
 
 /// Whether an atomic type can begin so.
-fn begins_type(kind: Kind) -> bool {
+pub fn begins_type(kind: Kind) -> bool {
     matches!(
         kind,
         Kind::Variable
