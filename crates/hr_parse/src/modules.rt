@@ -1,10 +1,10 @@
 //! Modules.
-use crate::blocks::body;
-use crate::imports::header;
-use crate::parser::Parser;
 use hr_base::Items;
 use hr_layout::Cursor;
+use hr_parse_expression::body;
+use hr_parse_head::header;
 use hr_parse_lexeme::{Held, Mark, Measured, Notes, ParseError, Stop, refusal};
+use hr_parse_pattern::Parser;
 use hr_tree::Module;
 use std::alloc::Global;
 

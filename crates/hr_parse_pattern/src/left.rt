@@ -2,7 +2,9 @@
 //! alike for any length, so both are read once: parentheses that open, what stands in the innermost of them, and
 //! then what closes. What has been read decides what each parenthesis is: round a pattern it is a node of the
 //! pattern, round a left side it belongs to the left side, and arguments follow it.
-use crate::operators::{Allowed, Parenthesis, is_constructor, operator, pattern_parenthesis};
+use crate::operators::{
+    Allowed, Parenthesis, begins_own_operator, is_constructor, operator, pattern_parenthesis,
+};
 use crate::parser::Parser;
 use crate::patterns::{
     applied, begins_pattern, bound, closed, negative, operand, pattern, some_arguments,
@@ -14,7 +16,7 @@ use sqlite_items::Items as Children;
 
 /// What a declaration begins with.
 #[derive(Drop)]
-pub(crate) enum Left {
+pub enum Left {
     /// A variable alone, which a signature, a binding or other names may follow.
     Variable(Held<Variable>),
     Pattern(Measured<Pat>),
@@ -30,7 +32,7 @@ enum Content {
 }
 
 /// The beginning of a declaration, whose patterns stand below a node with this nesting.
-pub(crate) fn left(parser: &mut Parser, depth: u32) -> Result<Left, Stop> {
+pub fn left(parser: &mut Parser, depth: u32) -> Result<Left, Stop> {
     let mut opens = Vec::new(parser.alloc);
     let first = first(parser, depth, &mut opens)?;
     let mut content = behind(parser, depth, first)?;
@@ -126,22 +128,10 @@ fn behind_variable(
             height,
         }));
     }
-    if begins_operator(kind_ahead(&parser.cursor)) {
+    if begins_own_operator(kind_ahead(&parser.cursor)) {
         return operators(parser, depth, leaf(Pat::Variable(variable.take())));
     }
     Ok(Content::Variable(variable))
-}
-
-fn begins_operator(kind: Kind) -> bool {
-    matches!(
-        kind,
-        Kind::VariableSymbol
-            | Kind::Minus
-            | Kind::ConstructorSymbol
-            | Kind::QualifiedConstructorSymbol
-            | Kind::Colon
-            | Kind::Backquote
-    )
 }
 
 /// Constructor operators go on in the pattern; a variable operator makes it the first one of a left side.
@@ -151,7 +141,7 @@ fn operators(parser: &mut Parser, depth: u32, first: Measured<Pat>) -> Result<Co
         tree: mut last,
         mut height,
     } = first;
-    while begins_operator(kind_ahead(&parser.cursor)) {
+    while begins_own_operator(kind_ahead(&parser.cursor)) {
         let Some(between) = operator(parser, Allowed::LeftSide)? else {
             return Err(Stop::Syntax);
         };

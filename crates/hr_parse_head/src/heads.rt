@@ -1,22 +1,22 @@
 //! Declarations of types: the Haskell 98 Report, section 4.2.
-use crate::blocks::{Part, Place};
-use crate::declarations::top;
-use crate::operators::{Allowed, operator, own_constructor};
-use crate::parser::Parser;
 use hr_base::Seq;
 use hr_parse_lexeme::{Held, Kind, Mark, Measured, Sort, Stop, accept_sort, kind_ahead, nest};
+use hr_parse_pattern::{Allowed, Parser, operator, own_constructor};
 use hr_parse_type::{applied_type, atomic_type, begins_type, whole_type};
 use hr_tree::{Construction, Constructor, Decl, Listed, Ty, TypeHead};
 use sqlite_items::Items as Children;
 
-pub(crate) fn synonym(parser: &mut Parser, depth: u32) -> Result<Part<Decl>, Stop> {
+pub fn synonym(parser: &mut Parser, depth: u32) -> Result<Measured<Decl>, Stop> {
     let word = parser.expect(Mark::Type)?;
     let head = type_head(parser)?;
     let equals = parser.expect(Mark::Equals)?;
     let Measured { tree, height } =
         whole_type(parser.alloc, &mut parser.cursor, depth.saturating_add(1))?;
     let tree = Decl::Synonym(word, head.take(), equals, tree.take());
-    Ok(top(tree, height.saturating_add(1), Place::Top))
+    Ok(Measured {
+        tree: Held::new(tree),
+        height: height.saturating_add(1),
+    })
 }
 
 /// A type's constructor and its variables. Behind a variable a lexeme that begins another atomic type would be an
@@ -39,7 +39,7 @@ fn type_head(parser: &mut Parser) -> Result<Held<TypeHead>, Stop> {
     }))
 }
 
-pub(crate) fn data(parser: &mut Parser, depth: u32) -> Result<Part<Decl>, Stop> {
+pub fn data(parser: &mut Parser, depth: u32) -> Result<Measured<Decl>, Stop> {
     let word = parser.expect(Mark::Data)?;
     parser.notes.data(true);
     let head = type_head(parser)?;
@@ -60,10 +60,13 @@ pub(crate) fn data(parser: &mut Parser, depth: u32) -> Result<Part<Decl>, Stop> 
         separator: None,
     })?;
     let tree = Decl::Data(word, head.take(), equals, Seq { list });
-    Ok(top(tree, height.saturating_add(1), Place::Top))
+    Ok(Measured {
+        tree: Held::new(tree),
+        height: height.saturating_add(1),
+    })
 }
 
-pub(crate) fn newtype(parser: &mut Parser, depth: u32) -> Result<Part<Decl>, Stop> {
+pub fn newtype(parser: &mut Parser, depth: u32) -> Result<Measured<Decl>, Stop> {
     let word = parser.expect(Mark::Newtype)?;
     let head = type_head(parser)?;
     let equals = parser.expect(Mark::Equals)?;
@@ -76,7 +79,10 @@ pub(crate) fn newtype(parser: &mut Parser, depth: u32) -> Result<Part<Decl>, Sto
     types.push(tree.take())?;
     let construction = Construction::Prefix(constructor.take(), types);
     let tree = Decl::Newtype(word, head.take(), equals, construction);
-    Ok(top(tree, height.saturating_add(1), Place::Top))
+    Ok(Measured {
+        tree: Held::new(tree),
+        height: height.saturating_add(1),
+    })
 }
 
 /// A constructor with its types, or a constructor operator between two types. Both can begin with a constructor and

@@ -1,14 +1,13 @@
 //! Export lists and imports: the Haskell 98 Report, sections 5.2 and 5.3.
-use crate::operators::{named_variable, own_constructor, own_variable};
-use crate::parser::Parser;
 use hr_base::{Item, Seq};
 use hr_parse_lexeme::{Held, Kind, Mark, Sort, Stop, accept_sort, kind_ahead};
+use hr_parse_pattern::{Parser, named_variable, own_constructor, own_variable};
 use hr_tree::{
     Alias, Constructor, Export, Header, Import, ImportNames, Imported, Listed, Members, NameList,
 };
 
 /// What stands before a module's body.
-pub(crate) fn header(parser: &mut Parser) -> Result<Held<Header>, Stop> {
+pub fn header(parser: &mut Parser) -> Result<Held<Header>, Stop> {
     let word = parser.expect(Mark::Module)?;
     let name = module_name(parser)?;
     let exports = if parser.is_next(Mark::LeftParen) {
@@ -146,7 +145,7 @@ fn member(parser: &mut Parser) -> Result<Held<Constructor>, Stop> {
 }
 
 /// `import` with all that may follow.
-pub(crate) fn import(parser: &mut Parser) -> Result<Held<Import>, Stop> {
+pub fn import(parser: &mut Parser) -> Result<Held<Import>, Stop> {
     let word = parser.expect(Mark::Import)?;
     let qualified = parser.accept(Mark::Qualified);
     let module = module_name(parser)?;

@@ -1,14 +1,10 @@
 //! Declarations and alternatives: the Haskell 98 Report, chapter 4 and section 3.13.
 use crate::blocks::{Part, Place, declarations};
 use crate::expressions::{Section, expression, sequence, whole};
-use crate::heads::{data, newtype, synonym};
-use crate::imports::import;
-use crate::left::{Left, left};
-use crate::operators::{Allowed, operator, own_variable};
-use crate::parser::Parser;
-use crate::patterns::pattern;
 use hr_base::{Ending, Item, Seq};
 use hr_parse_lexeme::{Held, Kind, Mark, Measured, Sort, Stop, kind_ahead, nest};
+use hr_parse_head::{data, import, newtype, synonym};
+use hr_parse_pattern::{Allowed, Left, Parser, left, operator, own_variable, pattern};
 use hr_parse_type::whole_type;
 use hr_tree::{Alt, Block, Body, Decl, Exp, Guarded, Listed, Pat, Variable, Where};
 use sqlite_items::Items as Children;
@@ -25,13 +21,18 @@ pub(crate) fn declaration(
     let kind = kind_ahead(&parser.cursor);
     if place == Place::First && kind == Kind::Import {
         let import = import(parser)?;
-        return Ok(top(Decl::Import(import.take()), 1, Place::First));
+        let tree = Decl::Import(import.take());
+        let decl = Measured {
+            tree: Held::new(tree),
+            height: 1,
+        };
+        return Ok(top(decl, Place::First));
     }
     if place != Place::Local {
         match kind {
-            Kind::Type => return synonym(parser, depth),
-            Kind::Data => return data(parser, depth),
-            Kind::Newtype => return newtype(parser, depth),
+            Kind::Type => return Ok(top(synonym(parser, depth)?, Place::Top)),
+            Kind::Data => return Ok(top(data(parser, depth)?, Place::Top)),
+            Kind::Newtype => return Ok(top(newtype(parser, depth)?, Place::Top)),
             _ => {}
         }
     }
@@ -68,9 +69,10 @@ pub(crate) fn declaration(
 }
 
 /// A declaration that stands in a module's body alone: nothing follows it there.
-pub(crate) fn top(tree: Decl, height: u32, place: Place) -> Part<Decl> {
+fn top(decl: Measured<Decl>, place: Place) -> Part<Decl> {
+    let Measured { tree, height } = decl;
     Part {
-        tree: Held::new(tree),
+        tree,
         height,
         ending: Ending::WhereBlock,
         place,

@@ -9,14 +9,14 @@ use sqlite_items::{Boxed, Items as Children};
 
 /// Any pattern.
 #[cycle(patterns)]
-pub(crate) fn pattern(parser: &mut Parser, depth: u32) -> Result<Measured<Pat>, Stop> {
+pub fn pattern(parser: &mut Parser, depth: u32) -> Result<Measured<Pat>, Stop> {
     let first = operand(parser, depth)?;
     pattern_behind(parser, depth, first)
 }
 
 /// A pattern whose first operand is read.
 #[cycle(patterns)]
-pub(crate) fn pattern_behind(
+pub fn pattern_behind(
     parser: &mut Parser,
     depth: u32,
     first: Measured<Pat>,
@@ -69,7 +69,7 @@ fn begins_constructor_operator(parser: &Parser) -> bool {
 
 /// A constructor with its arguments, a negative integer, or an atomic pattern.
 #[cycle(patterns)]
-pub(crate) fn operand(parser: &mut Parser, depth: u32) -> Result<Measured<Pat>, Stop> {
+pub fn operand(parser: &mut Parser, depth: u32) -> Result<Measured<Pat>, Stop> {
     if parser.is_next(Mark::Minus) {
         nest(depth, 1)?;
         let minus = parser.expect(Mark::Minus)?;
@@ -81,7 +81,7 @@ pub(crate) fn operand(parser: &mut Parser, depth: u32) -> Result<Measured<Pat>, 
     }
 }
 
-pub(crate) fn negative(parser: &mut Parser, minus: Item) -> Result<Measured<Pat>, Stop> {
+pub fn negative(parser: &mut Parser, minus: Item) -> Result<Measured<Pat>, Stop> {
     let number = parser.expect_sort(Sort::Integer)?;
     parser.pattern_ends();
     Ok(Measured {
@@ -92,7 +92,7 @@ pub(crate) fn negative(parser: &mut Parser, minus: Item) -> Result<Measured<Pat>
 
 /// A constructor with as many atomic patterns as follow.
 #[cycle(patterns)]
-pub(crate) fn applied(
+pub fn applied(
     parser: &mut Parser,
     depth: u32,
     named: Held<Constructor>,
@@ -109,7 +109,7 @@ pub(crate) fn applied(
 
 /// As many atomic patterns as follow.
 #[cycle(patterns)]
-pub(crate) fn arguments(
+pub fn arguments(
     parser: &mut Parser,
     depth: u32,
 ) -> Result<Measured<Children<Pat>>, Stop> {
@@ -130,7 +130,7 @@ pub(crate) fn arguments(
 }
 
 /// One atomic pattern or more.
-pub(crate) fn some_arguments(
+pub fn some_arguments(
     parser: &mut Parser,
     depth: u32,
 ) -> Result<Measured<Children<Pat>>, Stop> {
@@ -141,7 +141,7 @@ pub(crate) fn some_arguments(
 }
 
 #[cycle(patterns)]
-pub(crate) fn atomic(parser: &mut Parser, depth: u32) -> Result<Measured<Pat>, Stop> {
+pub fn atomic(parser: &mut Parser, depth: u32) -> Result<Measured<Pat>, Stop> {
     match head(parser, depth)? {
         Head::Named(named) => Ok(leaf(Pat::Constructor(named.take()))),
         Head::Atom(pattern) => Ok(pattern),
@@ -150,7 +150,7 @@ pub(crate) fn atomic(parser: &mut Parser, depth: u32) -> Result<Measured<Pat>, S
 
 /// An atomic pattern, or a constructor that arguments may follow.
 #[derive(Drop)]
-pub(crate) enum Head {
+pub enum Head {
     Named(Held<Constructor>),
     Atom(Measured<Pat>),
 }
@@ -197,7 +197,7 @@ fn leaf(tree: Pat) -> Measured<Pat> {
 
 /// A variable, and behind `@` the pattern that it names.
 #[cycle(patterns)]
-pub(crate) fn bound(
+pub fn bound(
     parser: &mut Parser,
     depth: u32,
     variable: Held<Variable>,
@@ -244,7 +244,7 @@ fn in_parentheses(parser: &mut Parser, depth: u32) -> Result<Head, Stop> {
 
 /// A pattern in parentheses, or a tuple that begins with it.
 #[cycle(patterns)]
-pub(crate) fn closed(
+pub fn closed(
     parser: &mut Parser,
     depth: u32,
     left: Item,
@@ -326,7 +326,7 @@ fn in_square(parser: &mut Parser, depth: u32) -> Result<Head, Stop> {
 }
 
 /// Whether an atomic pattern can begin so.
-pub(crate) fn begins_pattern(kind: Kind) -> bool {
+pub fn begins_pattern(kind: Kind) -> bool {
     matches!(
         kind,
         Kind::Variable

@@ -2,8 +2,8 @@
 //! alike for any length, so they are read once, as both as long as both are left.
 use crate::blocks::declarations;
 use crate::expressions::{Found, Section, in_body, whole};
-use crate::parser::Parser;
 use hr_parse_lexeme::{Held, Kind, Mark, Measured, Stop, kind_ahead, nest};
+use hr_parse_pattern::Parser;
 use hr_tree::{Listed, Qualifier};
 use sqlite_items::{Boxed, Items as Children};
 

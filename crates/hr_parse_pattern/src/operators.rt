@@ -6,7 +6,7 @@ use hr_tree::{Constructor, Operator, Variable};
 
 /// Which operators may stand somewhere.
 #[derive(Clone, Copy)]
-pub(crate) enum Allowed {
+pub enum Allowed {
     /// Any, qualified or not: between the operands of an expression.
     Any,
     /// Those of constructors, qualified or not: between patterns.
@@ -20,7 +20,7 @@ pub(crate) enum Allowed {
 }
 
 /// Whether the operator is one of a constructor.
-pub(crate) fn is_constructor(operator: &Operator) -> bool {
+pub fn is_constructor(operator: &Operator) -> bool {
     match operator {
         Operator::Symbol(symbol) => !is_variable_symbol(symbol),
         Operator::Quoted(_, name, _) => is_constructor_name(name),
@@ -35,8 +35,26 @@ fn is_constructor_name(item: &Item) -> bool {
     Sort::NamedConstructor.has(&item.lexeme)
 }
 
+/// Whether an operator can begin so.
+pub fn begins_operator(kind: Kind) -> bool {
+    begins_own_operator(kind) || matches!(kind, Kind::QualifiedVariableSymbol)
+}
+
+/// Whether an operator of a left side can begin so: not one of a qualified variable.
+pub fn begins_own_operator(kind: Kind) -> bool {
+    matches!(
+        kind,
+        Kind::VariableSymbol
+            | Kind::Minus
+            | Kind::ConstructorSymbol
+            | Kind::QualifiedConstructorSymbol
+            | Kind::Colon
+            | Kind::Backquote
+    )
+}
+
 /// The next operator, if one may stand here.
-pub(crate) fn operator(
+pub fn operator(
     parser: &mut Parser,
     allowed: Allowed,
 ) -> Result<Option<Held<Operator>>, Stop> {
@@ -92,7 +110,7 @@ fn quoted(parser: &mut Parser, allowed: Allowed) -> Result<Held<Operator>, Stop>
 /// What a parenthesis begins in a pattern: a name of symbols, a constructor without a name, a minus behind it, or
 /// what is to be read.
 #[derive(Drop)]
-pub(crate) enum Parenthesis {
+pub enum Parenthesis {
     Constructor(Held<Constructor>),
     Variable(Held<Variable>),
     Minus(Item, Item),
@@ -100,7 +118,7 @@ pub(crate) enum Parenthesis {
 }
 
 /// `(` and a symbol with `)`, or what else begins so. A symbol of a qualified variable names none in a pattern.
-pub(crate) fn pattern_parenthesis(parser: &mut Parser) -> Result<Parenthesis, Stop> {
+pub fn pattern_parenthesis(parser: &mut Parser) -> Result<Parenthesis, Stop> {
     let left = match parenthesis(parser.alloc, &mut parser.cursor)? {
         Bracket::Constructor(named) => return Ok(Parenthesis::Constructor(Held::new(named))),
         Bracket::Open(left) => left,
@@ -136,7 +154,7 @@ pub(crate) fn pattern_parenthesis(parser: &mut Parser) -> Result<Parenthesis, St
 }
 
 /// A variable that a declaration or a list names: a name, or a symbol in parentheses.
-pub(crate) fn own_variable(parser: &mut Parser) -> Result<Held<Variable>, Stop> {
+pub fn own_variable(parser: &mut Parser) -> Result<Held<Variable>, Stop> {
     let Some(left) = parser.accept(Mark::LeftParen) else {
         let name = parser.expect_sort(Sort::Variable)?;
         return Ok(Held::new(Variable::Name(name)));
@@ -147,7 +165,7 @@ pub(crate) fn own_variable(parser: &mut Parser) -> Result<Held<Variable>, Stop> 
 }
 
 /// A constructor that a declaration or a list names.
-pub(crate) fn own_constructor(parser: &mut Parser) -> Result<Held<Constructor>, Stop> {
+pub fn own_constructor(parser: &mut Parser) -> Result<Held<Constructor>, Stop> {
     let Some(left) = parser.accept(Mark::LeftParen) else {
         let name = parser.expect_sort(Sort::Constructor)?;
         return Ok(Held::new(Constructor::Name(name)));
@@ -158,7 +176,7 @@ pub(crate) fn own_constructor(parser: &mut Parser) -> Result<Held<Constructor>, 
 }
 
 /// A variable that an export names, perhaps qualified.
-pub(crate) fn named_variable(parser: &mut Parser) -> Result<Held<Variable>, Stop> {
+pub fn named_variable(parser: &mut Parser) -> Result<Held<Variable>, Stop> {
     let Some(left) = parser.accept(Mark::LeftParen) else {
         let name = parser.expect_sort(Sort::NamedVariable)?;
         return Ok(Held::new(Variable::Name(name)));

@@ -5,37 +5,37 @@ use std::alloc::Global;
 
 /// Where the parser stands, and what it has noted there.
 #[derive(Drop)]
-pub(crate) struct Parser {
-    pub(crate) alloc: Global,
-    pub(crate) cursor: Cursor,
-    pub(crate) notes: Notes,
+pub struct Parser {
+    pub alloc: Global,
+    pub cursor: Cursor,
+    pub notes: Notes,
 }
 
 impl Parser {
-    pub(crate) fn accept(&mut self, mark: Mark) -> Option<Item> {
+    pub fn accept(&mut self, mark: Mark) -> Option<Item> {
         accept(&mut self.cursor, mark)
     }
 
-    pub(crate) fn expect(&mut self, mark: Mark) -> Result<Item, Stop> {
+    pub fn expect(&mut self, mark: Mark) -> Result<Item, Stop> {
         expect(&mut self.cursor, mark)
     }
 
-    pub(crate) fn expect_sort(&mut self, sort: Sort) -> Result<Item, Stop> {
+    pub fn expect_sort(&mut self, sort: Sort) -> Result<Item, Stop> {
         expect_sort(&mut self.cursor, sort)
     }
 
-    pub(crate) fn is_next(&self, mark: Mark) -> bool {
+    pub fn is_next(&self, mark: Mark) -> bool {
         is_next(&self.cursor, mark)
     }
 
     /// A pattern is whole here.
-    pub(crate) fn pattern_ends(&mut self) {
+    pub fn pattern_ends(&mut self) {
         let pos = self.cursor.pos();
         self.notes.pattern(pos);
     }
 
     /// An expression or a constructor is whole here.
-    pub(crate) fn whole_ends(&mut self) {
+    pub fn whole_ends(&mut self) {
         let pos = self.cursor.pos();
         self.notes.whole(pos);
     }

@@ -1,9 +1,9 @@
 //! Blocks: the Haskell 98 Report, sections 2.7 and 9.3.
 use crate::declarations::{alternative, declaration};
-use crate::parser::Parser;
 use hr_base::{Class, Ending, Item, Lexeme};
 use hr_layout::Opened;
 use hr_parse_lexeme::{Held, Mark, Measured, Stop, nest};
+use hr_parse_pattern::Parser;
 use hr_tree::{Alt, Block, Decl, Layout, Piece};
 use sqlite_items::Items as Children;
 
@@ -27,7 +27,7 @@ pub(crate) fn declarations(
 }
 
 /// The body of a module.
-pub(crate) fn body(parser: &mut Parser) -> Result<Measured<Block<Decl>>, Stop> {
+pub fn body(parser: &mut Parser) -> Result<Measured<Block<Decl>>, Stop> {
     let opened = parser.cursor.open_body()?;
     declarations_in(parser, 0, opened, Place::First)
 }

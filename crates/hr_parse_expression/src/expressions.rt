@@ -1,13 +1,11 @@
 //! Expressions: the Haskell 98 Report, sections 3.2 to 3.13 and 3.16.
 use crate::blocks::{alternatives, declarations};
-use crate::operators::{Allowed, operator};
-use crate::parser::Parser;
-use crate::patterns::some_arguments;
 use crate::qualifiers::qualifiers;
 use hr_base::{Ending, Item};
 use hr_parse_lexeme::{
     Bracket, Held, Kind, Mark, Measured, Sort, Stop, kind_ahead, nest, parenthesis, square,
 };
+use hr_parse_pattern::{Allowed, Parser, begins_operator, operator, some_arguments};
 use hr_parse_type::whole_type;
 use hr_tree::{Constructor, Exp, Listed, Operand, Operator, Variable};
 use sqlite_items::{Boxed, Items as Children};
@@ -200,19 +198,6 @@ pub(crate) fn sequence_behind(
 /// Whether an operator follows: behind a lambda, `let` or `if` none is left.
 fn goes_on(parser: &Parser, last: &Found) -> bool {
     last.pending.is_none() && last.place != Place::Open && begins_operator(kind_ahead(&parser.cursor))
-}
-
-pub(crate) fn begins_operator(kind: Kind) -> bool {
-    matches!(
-        kind,
-        Kind::VariableSymbol
-            | Kind::Minus
-            | Kind::QualifiedVariableSymbol
-            | Kind::ConstructorSymbol
-            | Kind::QualifiedConstructorSymbol
-            | Kind::Colon
-            | Kind::Backquote
-    )
 }
 
 /// The sequence of the operands and a last one: one alone without a minus is no node.
