@@ -17,10 +17,7 @@ pub(crate) enum Place {
 
 /// A block of declarations behind `let` or `where`.
 #[cycle(expressions)]
-pub(crate) fn declarations(
-    parser: &mut Parser,
-    depth: u32,
-) -> Result<Measured<Block<Decl>>, Stop> {
+pub(crate) fn declarations(parser: &mut Parser, depth: u32) -> Result<Measured<Block<Decl>>, Stop> {
     nest(depth, 1)?;
     let opened = parser.cursor.open()?;
     declarations_in(parser, depth, opened, Place::Local)
@@ -165,10 +162,7 @@ pub(crate) struct Part<T: Drop> {
 
 /// A block of alternatives behind `of`.
 #[cycle(expressions)]
-pub(crate) fn alternatives(
-    parser: &mut Parser,
-    depth: u32,
-) -> Result<Measured<Block<Alt>>, Stop> {
+pub(crate) fn alternatives(parser: &mut Parser, depth: u32) -> Result<Measured<Block<Alt>>, Stop> {
     nest(depth, 1)?;
     match parser.cursor.open()? {
         Opened::Empty => Ok(empty(parser)),

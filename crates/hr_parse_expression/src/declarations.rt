@@ -2,9 +2,9 @@
 use crate::blocks::{Part, Place, declarations};
 use crate::expressions::{Section, expression, sequence, whole};
 use hr_base::{Ending, Item, Seq};
-use hr_parse_lexeme::{Held, Kind, Mark, Measured, Sort, Stop, kind_ahead, nest};
 use hr_parse_head::{data, import, newtype, synonym};
-use hr_parse_pattern::{Allowed, Left, Parser, left, operator, own_variable, pattern};
+use hr_parse_lexeme::{Held, Kind, Mark, Measured, Sort, Stop, kind_ahead, nest};
+use hr_parse_pattern::{Allowed, Left, Parser, left_side, operator, own_variable, pattern};
 use hr_parse_type::whole_type;
 use hr_tree::{Alt, Block, Body, Decl, Exp, Guarded, Listed, Pat, Variable, Where};
 use sqlite_items::Items as Children;
@@ -43,15 +43,12 @@ pub(crate) fn declaration(
     if kind == Kind::Fixity {
         return fixity(parser, place);
     }
-    match left(parser, depth.saturating_add(1))? {
+    match left_side(parser, depth.saturating_add(1))? {
         Left::Variable(variable) => behind_variable(parser, depth, place, variable),
         Left::Pattern(pattern) => binding(parser, depth, place, pattern),
         Left::Equation(left) => {
             let right = right_side(parser, depth.saturating_add(1), Mark::Equals)?;
-            let Measured {
-                tree: left,
-                height,
-            } = left;
+            let Measured { tree: left, height } = left;
             let RightSide {
                 body,
                 locals,
@@ -126,8 +123,11 @@ fn signature(
         separator: None,
     })?;
     let colons = parser.expect(Mark::DoubleColon)?;
-    let Measured { tree, height } =
-        whole_type(parser.alloc, &mut parser.cursor, depth.saturating_add(1))?;
+    let Measured { tree, height } = whole_type(
+        parser.alloc,
+        &mut parser.cursor,
+        depth.saturating_add(1),
+    )?;
     Ok(Part {
         tree: Held::new(Decl::Signature(Seq { list }, colons, tree.take())),
         height: height.saturating_add(1),

@@ -141,10 +141,26 @@ pub(crate) fn sequence(
     if minus.is_some() {
         nest(depth, 2)?;
         let first = operand(parser, depth.saturating_add(1), free, section)?;
-        return sequence_behind(parser, depth, free, section, Operands { list, height: 0 }, minus, first);
+        return sequence_behind(
+            parser,
+            depth,
+            free,
+            section,
+            Operands { list, height: 0 },
+            minus,
+            first,
+        );
     }
     let first = operand(parser, depth, free, section)?;
-    sequence_behind(parser, depth, free, section, Operands { list, height: 0 }, None, first)
+    sequence_behind(
+        parser,
+        depth,
+        free,
+        section,
+        Operands { list, height: 0 },
+        None,
+        first,
+    )
 }
 
 /// Operands with operators behind them.
@@ -197,7 +213,9 @@ pub(crate) fn sequence_behind(
 
 /// Whether an operator follows: behind a lambda, `let` or `if` none is left.
 fn goes_on(parser: &Parser, last: &Found) -> bool {
-    last.pending.is_none() && last.place != Place::Open && begins_operator(kind_ahead(&parser.cursor))
+    last.pending.is_none()
+        && last.place != Place::Open
+        && begins_operator(kind_ahead(&parser.cursor))
 }
 
 /// The sequence of the operands and a last one: one alone without a minus is no node.
@@ -256,12 +274,7 @@ pub(crate) fn operand(
 }
 
 #[cycle(expressions)]
-fn lambda(
-    parser: &mut Parser,
-    depth: u32,
-    free: bool,
-    section: Section,
-) -> Result<Found, Stop> {
+fn lambda(parser: &mut Parser, depth: u32, free: bool, section: Section) -> Result<Found, Stop> {
     nest(depth, 1)?;
     let mark = parser.expect(Mark::Backslash)?;
     let patterns = some_arguments(parser, depth.saturating_add(1))?;
@@ -289,12 +302,7 @@ fn lambda(
 }
 
 #[cycle(expressions)]
-fn let_in(
-    parser: &mut Parser,
-    depth: u32,
-    free: bool,
-    section: Section,
-) -> Result<Found, Stop> {
+fn let_in(parser: &mut Parser, depth: u32, free: bool, section: Section) -> Result<Found, Stop> {
     nest(depth, 1)?;
     let word = parser.expect(Mark::Let)?;
     let block = declarations(parser, depth.saturating_add(1))?;
@@ -335,12 +343,7 @@ pub(crate) fn in_body(
 }
 
 #[cycle(expressions)]
-fn if_else(
-    parser: &mut Parser,
-    depth: u32,
-    free: bool,
-    section: Section,
-) -> Result<Found, Stop> {
+fn if_else(parser: &mut Parser, depth: u32, free: bool, section: Section) -> Result<Found, Stop> {
     nest(depth, 1)?;
     let word = parser.expect(Mark::If)?;
     let test = whole(parser, depth.saturating_add(1), free)?;
@@ -393,11 +396,7 @@ fn case_of(parser: &mut Parser, depth: u32, free: bool) -> Result<Found, Stop> {
 
 /// An expression behind which no section ends.
 #[cycle(expressions)]
-pub(crate) fn whole(
-    parser: &mut Parser,
-    depth: u32,
-    free: bool,
-) -> Result<Measured<Exp>, Stop> {
+pub(crate) fn whole(parser: &mut Parser, depth: u32, free: bool) -> Result<Measured<Exp>, Stop> {
     let Found { tree, height, .. } = expression(parser, depth, free, Section::No)?;
     Ok(Measured { tree, height })
 }
@@ -523,7 +522,9 @@ fn right_section(parser: &mut Parser, depth: u32, left: Item) -> Result<Measured
     let Some(between) = operator(parser, Allowed::Any)? else {
         return Err(Stop::Syntax);
     };
-    if is_symbol(between.get()) && let Some(right) = parser.accept(Mark::RightParen) {
+    if is_symbol(between.get())
+        && let Some(right) = parser.accept(Mark::RightParen)
+    {
         return Ok(leaf(named(left, between, right)));
     }
     let part = sequence_alone(parser, depth.saturating_add(1))?;
@@ -596,7 +597,12 @@ pub(crate) fn closed(
     let Measured {
         tree: parts,
         height,
-    } = parts(parser, depth.saturating_add(1), Measured { tree, height }, 14)?;
+    } = parts(
+        parser,
+        depth.saturating_add(1),
+        Measured { tree, height },
+        14,
+    )?;
     let right = parser.expect(Mark::RightParen)?;
     Ok(Measured {
         tree: Held::new(Exp::Tuple(left, parts.take(), right)),
@@ -717,10 +723,7 @@ fn list_or_range(
         tree: first,
         height: levels,
     } = first;
-    let Measured {
-        tree: rest,
-        height,
-    } = parts(parser, depth.saturating_add(1), second, u32::MAX)?;
+    let Measured { tree: rest, height } = parts(parser, depth.saturating_add(1), second, u32::MAX)?;
     let right = parser.expect(Mark::RightSquare)?;
     let mut list = Children::new(parser.alloc);
     list.push(Listed {
@@ -761,9 +764,7 @@ fn range_by(
     let Measured { tree, .. } = last;
     let last = Boxed::new(parser.alloc, tree.take())?;
     Ok(Measured {
-        tree: Held::new(Exp::FromThenTo(
-            left, first, comma, second, dots, last, right,
-        )),
+        tree: Held::new(Exp::FromThenTo(left, first, comma, second, dots, last, right)),
         height: height.saturating_add(1),
     })
 }

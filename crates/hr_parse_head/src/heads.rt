@@ -10,8 +10,11 @@ pub fn synonym(parser: &mut Parser, depth: u32) -> Result<Measured<Decl>, Stop> 
     let word = parser.expect(Mark::Type)?;
     let head = type_head(parser)?;
     let equals = parser.expect(Mark::Equals)?;
-    let Measured { tree, height } =
-        whole_type(parser.alloc, &mut parser.cursor, depth.saturating_add(1))?;
+    let Measured { tree, height } = whole_type(
+        parser.alloc,
+        &mut parser.cursor,
+        depth.saturating_add(1),
+    )?;
     let tree = Decl::Synonym(word, head.take(), equals, tree.take());
     Ok(Measured {
         tree: Held::new(tree),
@@ -72,8 +75,11 @@ pub fn newtype(parser: &mut Parser, depth: u32) -> Result<Measured<Decl>, Stop> 
     let equals = parser.expect(Mark::Equals)?;
     let constructor = own_constructor(parser)?;
     parser.whole_ends();
-    let Measured { tree, height } =
-        atomic_type(parser.alloc, &mut parser.cursor, depth.saturating_add(1))?;
+    let Measured { tree, height } = atomic_type(
+        parser.alloc,
+        &mut parser.cursor,
+        depth.saturating_add(1),
+    )?;
     parser.whole_ends();
     let mut types = Children::new(parser.alloc);
     types.push(tree.take())?;
@@ -138,10 +144,7 @@ fn types(parser: &mut Parser, depth: u32) -> Result<Measured<Children<Ty>>, Stop
     })
 }
 
-fn prefix(
-    constructor: Held<Constructor>,
-    types: Measured<Children<Ty>>,
-) -> Measured<Construction> {
+fn prefix(constructor: Held<Constructor>, types: Measured<Children<Ty>>) -> Measured<Construction> {
     let Measured { tree, height } = types;
     Measured {
         tree: Held::new(Construction::Prefix(constructor.take(), tree.take())),
@@ -182,11 +185,7 @@ fn infix(
     let Measured { tree: first, .. } = first;
     let Measured { tree: second, .. } = second;
     Ok(Measured {
-        tree: Held::new(Construction::Infix(
-            first.take(),
-            between.take(),
-            second.take(),
-        )),
+        tree: Held::new(Construction::Infix(first.take(), between.take(), second.take())),
         height,
     })
 }

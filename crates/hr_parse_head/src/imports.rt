@@ -79,10 +79,7 @@ fn exports(parser: &mut Parser) -> Result<Held<NameList<Export>>, Stop> {
 }
 
 fn is_end(parser: &Parser) -> bool {
-    matches!(
-        kind_ahead(&parser.cursor),
-        Kind::RightParen | Kind::Comma
-    )
+    matches!(kind_ahead(&parser.cursor), Kind::RightParen | Kind::Comma)
 }
 
 fn export(parser: &mut Parser) -> Result<Held<Export>, Stop> {

@@ -32,9 +32,9 @@ enum Content {
 }
 
 /// The beginning of a declaration, whose patterns stand below a node with this nesting.
-pub fn left(parser: &mut Parser, depth: u32) -> Result<Left, Stop> {
+pub fn left_side(parser: &mut Parser, depth: u32) -> Result<Left, Stop> {
     let mut opens = Vec::new(parser.alloc);
-    let first = first(parser, depth, &mut opens)?;
+    let first = first_part(parser, depth, &mut opens)?;
     let mut content = behind(parser, depth, first)?;
     loop {
         let pattern = match content {
@@ -72,7 +72,7 @@ enum First {
     Pattern(Measured<Pat>),
 }
 
-fn first(parser: &mut Parser, depth: u32, opens: &mut Vec<Item>) -> Result<First, Stop> {
+fn first_part(parser: &mut Parser, depth: u32, opens: &mut Vec<Item>) -> Result<First, Stop> {
     while parser.is_next(Mark::LeftParen) {
         nest(depth, 1)?;
         match pattern_parenthesis(parser)? {

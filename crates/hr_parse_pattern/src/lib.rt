@@ -6,11 +6,9 @@ mod operators;
 mod parser;
 mod patterns;
 
-pub use left::{Left, left};
+pub use left::{Left, left_side};
 pub use operators::{
     Allowed, Parenthesis, begins_operator, named_variable, operator, own_constructor, own_variable,
 };
 pub use parser::Parser;
-pub use patterns::{
-    begins_pattern, negative, pattern, pattern_behind, some_arguments,
-};
+pub use patterns::{begins_pattern, negative, pattern, pattern_behind, some_arguments};

@@ -1,7 +1,9 @@
 //! Operators, and names in parentheses.
 use crate::parser::Parser;
 use hr_base::Item;
-use hr_parse_lexeme::{Bracket, Held, Kind, Mark, Sort, Stop, accept_sort, kind_ahead, parenthesis};
+use hr_parse_lexeme::{
+    Bracket, Held, Kind, Mark, Sort, Stop, accept_sort, kind_ahead, parenthesis,
+};
 use hr_tree::{Constructor, Operator, Variable};
 
 /// Which operators may stand somewhere.
@@ -54,10 +56,7 @@ pub fn begins_own_operator(kind: Kind) -> bool {
 }
 
 /// The next operator, if one may stand here.
-pub fn operator(
-    parser: &mut Parser,
-    allowed: Allowed,
-) -> Result<Option<Held<Operator>>, Stop> {
+pub fn operator(parser: &mut Parser, allowed: Allowed) -> Result<Option<Held<Operator>>, Stop> {
     if parser.is_next(Mark::Backquote) {
         return Ok(Some(quoted(parser, allowed)?));
     }
@@ -86,9 +85,7 @@ fn symbol(parser: &mut Parser, allowed: Allowed) -> Option<Item> {
 fn quoted(parser: &mut Parser, allowed: Allowed) -> Result<Held<Operator>, Stop> {
     let left = parser.expect(Mark::Backquote)?;
     let takes = match kind_ahead(&parser.cursor) {
-        Kind::Variable => {
-            matches!(allowed, Allowed::Any | Allowed::LeftSide | Allowed::Own)
-        }
+        Kind::Variable => { matches!(allowed, Allowed::Any | Allowed::LeftSide | Allowed::Own) }
         Kind::QualifiedVariable => matches!(allowed, Allowed::Any),
         Kind::Constructor => true,
         Kind::QualifiedConstructor => matches!(
@@ -136,18 +133,14 @@ pub fn pattern_parenthesis(parser: &mut Parser) -> Result<Parenthesis, Stop> {
         Kind::VariableSymbol => {
             let symbol = parser.expect_sort(Sort::VariableSymbol)?;
             let right = parser.expect(Mark::RightParen)?;
-            Ok(Parenthesis::Variable(Held::new(Variable::Symbol(
-                left, symbol, right,
-            ))))
+            Ok(Parenthesis::Variable(Held::new(Variable::Symbol(left, symbol, right))))
         }
         Kind::ConstructorSymbol | Kind::QualifiedConstructorSymbol | Kind::Colon => {
             let Some(symbol) = parser.cursor.take() else {
                 return Err(Stop::Syntax);
             };
             let right = parser.expect(Mark::RightParen)?;
-            Ok(Parenthesis::Constructor(Held::new(Constructor::Symbol(
-                left, symbol, right,
-            ))))
+            Ok(Parenthesis::Constructor(Held::new(Constructor::Symbol(left, symbol, right))))
         }
         _ => Ok(Parenthesis::Open(left)),
     }

@@ -60,10 +60,7 @@ pub fn pattern_behind(
 fn begins_constructor_operator(parser: &Parser) -> bool {
     matches!(
         kind_ahead(&parser.cursor),
-        Kind::ConstructorSymbol
-            | Kind::QualifiedConstructorSymbol
-            | Kind::Colon
-            | Kind::Backquote
+        Kind::ConstructorSymbol | Kind::QualifiedConstructorSymbol | Kind::Colon | Kind::Backquote
     )
 }
 
@@ -75,7 +72,7 @@ pub fn operand(parser: &mut Parser, depth: u32) -> Result<Measured<Pat>, Stop> {
         let minus = parser.expect(Mark::Minus)?;
         return negative(parser, minus);
     }
-    match head(parser, depth)? {
+    match begin_atom(parser, depth)? {
         Head::Named(named) => applied(parser, depth, named),
         Head::Atom(pattern) => Ok(pattern),
     }
@@ -109,10 +106,7 @@ pub fn applied(
 
 /// As many atomic patterns as follow.
 #[cycle(patterns)]
-pub fn arguments(
-    parser: &mut Parser,
-    depth: u32,
-) -> Result<Measured<Children<Pat>>, Stop> {
+pub fn arguments(parser: &mut Parser, depth: u32) -> Result<Measured<Children<Pat>>, Stop> {
     let mut list = Children::new(parser.alloc);
     let mut height = 0;
     while begins_pattern(kind_ahead(&parser.cursor)) {
@@ -130,10 +124,7 @@ pub fn arguments(
 }
 
 /// One atomic pattern or more.
-pub fn some_arguments(
-    parser: &mut Parser,
-    depth: u32,
-) -> Result<Measured<Children<Pat>>, Stop> {
+pub fn some_arguments(parser: &mut Parser, depth: u32) -> Result<Measured<Children<Pat>>, Stop> {
     if !begins_pattern(kind_ahead(&parser.cursor)) {
         return Err(Stop::Syntax);
     }
@@ -142,7 +133,7 @@ pub fn some_arguments(
 
 #[cycle(patterns)]
 pub fn atomic(parser: &mut Parser, depth: u32) -> Result<Measured<Pat>, Stop> {
-    match head(parser, depth)? {
+    match begin_atom(parser, depth)? {
         Head::Named(named) => Ok(leaf(Pat::Constructor(named.take()))),
         Head::Atom(pattern) => Ok(pattern),
     }
@@ -157,7 +148,7 @@ pub enum Head {
 
 /// The first lexeme decides.
 #[cycle(patterns)]
-fn head(parser: &mut Parser, depth: u32) -> Result<Head, Stop> {
+fn begin_atom(parser: &mut Parser, depth: u32) -> Result<Head, Stop> {
     let kind = kind_ahead(&parser.cursor);
     if !begins_pattern(kind) {
         return Err(Stop::Syntax);

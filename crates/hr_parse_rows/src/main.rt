@@ -47,7 +47,11 @@ fn answer(alloc: Global, fields: &[Vec<u8>]) -> Result<String, AllocError> {
     };
     match parse(alloc, items) {
         Ok(tree) => {
-            let word = if yields(alloc, &tree, text.as_slice())? { "read" } else { "other" };
+            let word = if yields(alloc, &tree, text.as_slice())? {
+                "read"
+            } else {
+                "other"
+            };
             String::from_str(alloc, word)
         }
         Err(error) => refused(alloc, error),
