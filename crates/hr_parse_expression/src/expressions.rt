@@ -436,7 +436,7 @@ pub(crate) fn application_behind(
     ))
 }
 
-fn applied(tree: Held<Exp>, height: u32, place: Place) -> Found {
+pub(crate) fn applied(tree: Held<Exp>, height: u32, place: Place) -> Found {
     Found {
         tree,
         height,
@@ -460,7 +460,7 @@ pub(crate) fn begins_atom(kind: Kind) -> bool {
     )
 }
 
-fn leaf(tree: Exp) -> Measured<Exp> {
+pub(crate) fn leaf(tree: Exp) -> Measured<Exp> {
     Measured {
         tree: Held::new(tree),
         height: 1,
@@ -527,6 +527,17 @@ fn right_section(parser: &mut Parser, depth: u32, left: Item) -> Result<Measured
     {
         return Ok(leaf(named(left, between, right)));
     }
+    section_behind(parser, depth, left, between)
+}
+
+/// The operand of a section behind its operator, and the closing parenthesis.
+#[cycle(expressions)]
+pub(crate) fn section_behind(
+    parser: &mut Parser,
+    depth: u32,
+    left: Item,
+    between: Held<Operator>,
+) -> Result<Measured<Exp>, Stop> {
     let part = sequence_alone(parser, depth.saturating_add(1))?;
     let right = parser.expect(Mark::RightParen)?;
     let Measured { tree, height } = part;
@@ -544,12 +555,12 @@ fn sequence_alone(parser: &mut Parser, depth: u32) -> Result<Measured<Exp>, Stop
     Ok(Measured { tree, height })
 }
 
-fn is_symbol(operator: &Operator) -> bool {
+pub(crate) fn is_symbol(operator: &Operator) -> bool {
     matches!(operator, Operator::Symbol(_))
 }
 
 /// An operator in parentheses, by what it is an operator of.
-fn named(left: Item, between: Held<Operator>, right: Item) -> Exp {
+pub(crate) fn named(left: Item, between: Held<Operator>, right: Item) -> Exp {
     match between.take() {
         Operator::Symbol(symbol) => {
             if Sort::NamedVariableSymbol.has(&symbol.lexeme) {
@@ -594,15 +605,12 @@ pub(crate) fn closed(
     if !parser.is_next(Mark::Comma) {
         return Err(Stop::Syntax);
     }
+    let before = Children::new(parser.alloc);
+    let first = Measured { tree, height };
     let Measured {
         tree: parts,
         height,
-    } = parts(
-        parser,
-        depth.saturating_add(1),
-        Measured { tree, height },
-        14,
-    )?;
+    } = parts(parser, depth.saturating_add(1), before, first, 14)?;
     let right = parser.expect(Mark::RightParen)?;
     Ok(Measured {
         tree: Held::new(Exp::Tuple(left, parts.take(), right)),
@@ -610,15 +618,16 @@ pub(crate) fn closed(
     })
 }
 
-/// The expressions behind a first one, each behind a comma: so many at most.
+/// Expressions with commas behind them, one more, and those behind it, each behind a comma: so many at most.
 #[cycle(expressions)]
-fn parts(
+pub(crate) fn parts(
     parser: &mut Parser,
     depth: u32,
+    before: Children<Listed<Exp>>,
     first: Measured<Exp>,
     most: u32,
 ) -> Result<Measured<Children<Listed<Exp>>>, Stop> {
-    let mut list = Children::new(parser.alloc);
+    let mut list = before;
     let Measured {
         tree: mut last,
         mut height,
@@ -658,6 +667,17 @@ fn in_square(parser: &mut Parser, depth: u32) -> Result<Measured<Exp>, Stop> {
         Bracket::Open(left) => left,
     };
     let first = whole(parser, depth.saturating_add(1), true)?;
+    square_behind(parser, depth, left, first)
+}
+
+/// The same behind the first expression.
+#[cycle(expressions)]
+pub(crate) fn square_behind(
+    parser: &mut Parser,
+    depth: u32,
+    left: Item,
+    first: Measured<Exp>,
+) -> Result<Measured<Exp>, Stop> {
     match kind_ahead(&parser.cursor) {
         Kind::Dots => range(parser, depth, left, first),
         Kind::Bar => comprehension(parser, depth, left, first),
@@ -716,6 +736,19 @@ fn list_or_range(
 ) -> Result<Measured<Exp>, Stop> {
     let comma = parser.expect(Mark::Comma)?;
     let second = whole(parser, depth.saturating_add(1), true)?;
+    list_behind(parser, depth, left, first, comma, second)
+}
+
+/// The same behind the second expression.
+#[cycle(expressions)]
+pub(crate) fn list_behind(
+    parser: &mut Parser,
+    depth: u32,
+    left: Item,
+    first: Measured<Exp>,
+    comma: Item,
+    second: Measured<Exp>,
+) -> Result<Measured<Exp>, Stop> {
     if parser.is_next(Mark::Dots) {
         return range_by(parser, depth, left, first, comma, second);
     }
@@ -723,16 +756,16 @@ fn list_or_range(
         tree: first,
         height: levels,
     } = first;
-    let Measured { tree: rest, height } = parts(parser, depth.saturating_add(1), second, u32::MAX)?;
-    let right = parser.expect(Mark::RightSquare)?;
-    let mut list = Children::new(parser.alloc);
-    list.push(Listed {
+    let mut before = Children::new(parser.alloc);
+    before.push(Listed {
         part: first.take(),
         separator: Some(comma),
     })?;
-    list.append(rest.take())?;
+    let Measured { tree: list, height } =
+        parts(parser, depth.saturating_add(1), before, second, u32::MAX)?;
+    let right = parser.expect(Mark::RightSquare)?;
     Ok(Measured {
-        tree: Held::new(Exp::List(left, list, right)),
+        tree: Held::new(Exp::List(left, list.take(), right)),
         height: levels.max(height).saturating_add(1),
     })
 }

@@ -3,6 +3,7 @@
 
 mod blocks;
 mod declarations;
+mod duals;
 mod expressions;
 mod qualifiers;
 

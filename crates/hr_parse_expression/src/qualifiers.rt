@@ -1,10 +1,11 @@
 //! Qualifiers of a comprehension: the Haskell 98 Report, section 3.11. A pattern before `<-` and a test can begin
 //! alike for any length, so they are read once, as both as long as both are left.
 use crate::blocks::declarations;
+use crate::duals::{Dual, dual};
 use crate::expressions::{Found, Section, in_body, whole};
 use hr_parse_lexeme::{Held, Kind, Mark, Measured, Stop, kind_ahead, nest};
 use hr_parse_pattern::Parser;
-use hr_tree::{Listed, Qualifier};
+use hr_tree::{Exp, Listed, Pat, Qualifier};
 use sqlite_items::{Boxed, Items as Children};
 
 /// One qualifier or more, with commas between them.
@@ -47,12 +48,48 @@ fn qualifier(parser: &mut Parser, depth: u32) -> Result<Measured<Qualifier>, Sto
     test(parser, depth)
 }
 
+/// A generator where `<-` follows what may be a pattern, and else a test.
 #[cycle(expressions)]
 fn test(parser: &mut Parser, depth: u32) -> Result<Measured<Qualifier>, Stop> {
-    let Measured { tree, height } = whole(parser, depth, true)?;
+    match dual(parser, depth, Section::No)? {
+        Dual::Pattern(pattern) => generator(parser, depth, pattern),
+        Dual::Expression(found) => {
+            let Found { tree, height, .. } = found;
+            tested(parser, Measured { tree, height })
+        }
+        Dual::Both(exp, pattern) => {
+            if parser.is_next(Mark::BackArrow) {
+                generator(parser, depth, pattern)
+            } else {
+                tested(parser, exp)
+            }
+        }
+    }
+}
+
+fn tested(parser: &Parser, exp: Measured<Exp>) -> Result<Measured<Qualifier>, Stop> {
+    let Measured { tree, height } = exp;
     let part = Boxed::new(parser.alloc, tree.take())?;
     Ok(Measured {
         tree: Held::new(Qualifier::Test(part)),
+        height,
+    })
+}
+
+#[cycle(expressions)]
+fn generator(
+    parser: &mut Parser,
+    depth: u32,
+    pattern: Measured<Pat>,
+) -> Result<Measured<Qualifier>, Stop> {
+    let arrow = parser.expect(Mark::BackArrow)?;
+    let part = whole(parser, depth, true)?;
+    let height = part.height.max(pattern.height);
+    let Measured { tree: part, .. } = part;
+    let Measured { tree: pattern, .. } = pattern;
+    let part = Boxed::new(parser.alloc, part.take())?;
+    Ok(Measured {
+        tree: Held::new(Qualifier::Generator(pattern.take(), arrow, part)),
         height,
     })
 }

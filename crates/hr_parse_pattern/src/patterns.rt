@@ -11,17 +11,19 @@ use sqlite_items::{Boxed, Items as Children};
 #[cycle(patterns)]
 pub fn pattern(parser: &mut Parser, depth: u32) -> Result<Measured<Pat>, Stop> {
     let first = operand(parser, depth)?;
-    pattern_behind(parser, depth, first)
+    let before = Children::new(parser.alloc);
+    pattern_behind(parser, depth, before, first)
 }
 
-/// A pattern whose first operand is read.
+/// A pattern of which operands with operators behind them are read, and one more.
 #[cycle(patterns)]
 pub fn pattern_behind(
     parser: &mut Parser,
     depth: u32,
+    before: Children<Operand<Pat>>,
     first: Measured<Pat>,
 ) -> Result<Measured<Pat>, Stop> {
-    let mut list = Children::new(parser.alloc);
+    let mut list = before;
     let Measured {
         tree: mut last,
         mut height,
@@ -227,7 +229,8 @@ fn in_parentheses(parser: &mut Parser, depth: u32) -> Result<Head, Stop> {
         Parenthesis::Minus(left, minus) => {
             nest(depth.saturating_add(1), 1)?;
             let number = negative(parser, minus)?;
-            let first = pattern_behind(parser, depth.saturating_add(1), number)?;
+            let before = Children::new(parser.alloc);
+            let first = pattern_behind(parser, depth.saturating_add(1), before, number)?;
             Ok(Head::Atom(closed(parser, depth, left, first)?))
         }
     }
@@ -253,7 +256,8 @@ pub fn closed(
     if !parser.is_next(Mark::Comma) {
         return Err(Stop::Syntax);
     }
-    let Measured { tree, height } = parts(parser, depth.saturating_add(1), first, 14)?;
+    let before = Children::new(parser.alloc);
+    let Measured { tree, height } = parts(parser, depth.saturating_add(1), before, first, 14)?;
     let right = parser.expect(Mark::RightParen)?;
     Ok(Measured {
         tree: Held::new(Pat::Tuple(left, tree.take(), right)),
@@ -261,15 +265,16 @@ pub fn closed(
     })
 }
 
-/// The patterns behind a first one, each behind a comma: so many at most.
+/// Patterns with commas behind them, one more, and those behind it, each behind a comma: so many at most.
 #[cycle(patterns)]
-fn parts(
+pub fn parts(
     parser: &mut Parser,
     depth: u32,
+    before: Children<Listed<Pat>>,
     first: Measured<Pat>,
     most: u32,
 ) -> Result<Measured<Children<Listed<Pat>>>, Stop> {
-    let mut list = Children::new(parser.alloc);
+    let mut list = before;
     let Measured {
         tree: mut last,
         mut height,
@@ -308,7 +313,8 @@ fn in_square(parser: &mut Parser, depth: u32) -> Result<Head, Stop> {
         Bracket::Open(left) => left,
     };
     let first = pattern(parser, depth.saturating_add(1))?;
-    let Measured { tree, height } = parts(parser, depth.saturating_add(1), first, u32::MAX)?;
+    let before = Children::new(parser.alloc);
+    let Measured { tree, height } = parts(parser, depth.saturating_add(1), before, first, u32::MAX)?;
     let right = parser.expect(Mark::RightSquare)?;
     Ok(Head::Atom(Measured {
         tree: Held::new(Pat::List(left, tree.take(), right)),
