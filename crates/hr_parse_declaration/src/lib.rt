@@ -6,6 +6,7 @@ mod fixities;
 mod imports;
 mod lists;
 mod names;
+mod opened;
 mod signatures;
 mod stated;
 mod types;

@@ -1,14 +1,15 @@
 //! Declarations of types.
 
 use crate::names::{own_constructor, own_constructor_operator};
+use crate::opened::{applied, begins_type, boxed, opened_type, types};
 use crate::stated::{Stated, stated};
 use hr_base::{Ending, Item, Seq};
 use hr_layout::Cursor;
 use hr_parse_lexeme::{
-    Kind, Mark, Measured, Notes, Sort, Stop, accept, accept_sort, expect, expect_sort, is_next, kind_ahead, nest,
+    Kind, Mark, Notes, Sort, Stop, accept, accept_sort, expect, expect_sort, is_next, kind_ahead, nest,
 };
 use hr_parse_pattern::{Many, Part, below};
-use hr_parse_type::{applied_type, applied_type_behind, atomic_type, whole_type};
+use hr_parse_type::{applied_type, atomic_type, whole_type};
 use hr_tree::{Construction, Constructor, Decl, Listed, Ty, TypeHead};
 use sqlite_items::{Boxed, Items as Children};
 use std::alloc::Global;
@@ -105,18 +106,6 @@ fn type_head(alloc: Global, cursor: &mut Cursor) -> Result<TypeHead, Stop> {
     Ok(TypeHead { name, variables })
 }
 
-fn begins_type(kind: Kind) -> bool {
-    matches!(
-        kind,
-        Kind::Variable
-            | Kind::QualifiedVariable
-            | Kind::Constructor
-            | Kind::QualifiedConstructor
-            | Kind::LeftParen
-            | Kind::LeftSquare
-    )
-}
-
 /// A constructor with its types. What begins with an unqualified constructor may be the first type of an operator
 /// too: the operator decides, where the types end.
 // will ensure: construction_reading below n
@@ -154,37 +143,8 @@ fn in_parentheses(
         let types = types(alloc, cursor, notes, depth)?;
         return prefix(alloc, Constructor::Symbol(left, symbol, right), types);
     }
-    let ty = applied_type_behind(alloc, cursor, depth, left)?;
-    let first = boxed(alloc, ty)?;
+    let first = opened_type(alloc, cursor, notes, depth, left)?;
     infix(alloc, cursor, notes, depth, first)
-}
-
-fn boxed(alloc: Global, ty: Measured<Ty>) -> Result<Part<Ty>, Stop> {
-    let height = ty.height;
-    let tree = Boxed::new(alloc, ty.tree.take())?;
-    Ok(Part { tree, height })
-}
-
-/// The types of a constructor, atomic ones.
-fn types(
-    alloc: Global,
-    cursor: &mut Cursor,
-    notes: &mut Notes,
-    depth: u32,
-) -> Result<Many<Ty>, Stop> {
-    let mut list = Children::new(alloc);
-    let mut levels = 0;
-    notes.whole(cursor.pos());
-    while begins_type(kind_ahead(cursor)) {
-        let ty = atomic_type(alloc, cursor, depth)?;
-        levels = ty.height.max(levels);
-        list.push(ty.tree.take())?;
-        notes.whole(cursor.pos());
-    }
-    Ok(Many {
-        list,
-        height: levels,
-    })
 }
 
 fn prefix_or_infix(
@@ -198,27 +158,9 @@ fn prefix_or_infix(
     if !begins_constructor_operator(kind_ahead(cursor)) {
         return prefix(alloc, constructor, types);
     }
-    let Many { list, height } = types;
-    nest(below(depth), height)?;
-    let first = applied(alloc, constructor, list, height)?;
+    nest(below(depth), types.height)?;
+    let first = applied(alloc, constructor, types)?;
     infix(alloc, cursor, notes, depth, first)
-}
-
-fn applied(
-    alloc: Global,
-    constructor: Constructor,
-    list: Children<Ty>,
-    height: u32,
-) -> Result<Part<Ty>, Stop> {
-    let tree = if list.is_empty() {
-        Boxed::new(alloc, Ty::Constructor(constructor))?
-    } else {
-        Boxed::new(alloc, Ty::Apply(constructor, list))?
-    };
-    Ok(Part {
-        tree,
-        height: below(height),
-    })
 }
 
 fn begins_constructor_operator(kind: Kind) -> bool {

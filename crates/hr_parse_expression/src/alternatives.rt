@@ -1,6 +1,6 @@
 //! Alternatives: the Haskell 98 Report, section 3.13.
 
-use crate::sides::{Side, side};
+use crate::sides::{Side, right_side};
 use hr_layout::Cursor;
 use hr_parse_declaration::Stated;
 use hr_parse_lexeme::{Mark, Notes, Stop, kind_ahead, nest};
@@ -23,7 +23,7 @@ pub(crate) fn alternative(
     }
     nest(depth, 1)?;
     let part = pattern(alloc, cursor, notes, below(depth))?;
-    let side = side(alloc, cursor, notes, below(depth), Mark::Arrow)?;
+    let side = right_side(alloc, cursor, notes, below(depth), Mark::Arrow)?;
     let Part { tree, height } = part;
     let Side {
         body,

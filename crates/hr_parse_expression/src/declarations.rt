@@ -1,11 +1,11 @@
 //! Declarations: the Haskell 98 Report, chapter 4.
 
-use crate::sides::{Side, side};
+use crate::sides::{Side, right_side};
 use crate::starts::begins_declaration;
 use hr_layout::Cursor;
 use hr_parse_declaration::{Stated, fixity, import, signature, stated, type_declaration};
 use hr_parse_lexeme::{Kind, Mark, Notes, Stop, kind_ahead, nest};
-use hr_parse_pattern::{Front, Part, below, front, variable_pattern};
+use hr_parse_pattern::{Front, Part, beginning, below, variable_pattern};
 use hr_tree::{Decl, LeftSide, Pat, Variable};
 use std::alloc::Global;
 
@@ -63,7 +63,7 @@ fn valued(
     notes: &mut Notes,
     depth: u32,
 ) -> Result<Stated<Decl>, Stop> {
-    match front(alloc, cursor, notes, depth)? {
+    match beginning(alloc, cursor, notes, depth)? {
         Front::Variable(bound) => behind_variable(alloc, cursor, notes, depth, bound),
         Front::Pattern(part) => binding(alloc, cursor, notes, depth, part),
         Front::Left(left, height) => equation(alloc, cursor, notes, depth, left, height),
@@ -99,7 +99,7 @@ fn binding(
     depth: u32,
     part: Part<Pat>,
 ) -> Result<Stated<Decl>, Stop> {
-    let side = side(alloc, cursor, notes, depth, Mark::Equals)?;
+    let side = right_side(alloc, cursor, notes, depth, Mark::Equals)?;
     let Part { tree, height } = part;
     let Side {
         body,
@@ -121,7 +121,7 @@ fn equation(
     left: LeftSide,
     height: u32,
 ) -> Result<Stated<Decl>, Stop> {
-    let side = side(alloc, cursor, notes, depth, Mark::Equals)?;
+    let side = right_side(alloc, cursor, notes, depth, Mark::Equals)?;
     let Side {
         body,
         locals,

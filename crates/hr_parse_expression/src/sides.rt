@@ -23,7 +23,7 @@ pub(crate) struct Side {
 /// innermost part that can have it. The nesting of that part is `depth`.
 #[cycle(expressions)]
 // will ensure: right_side_reading below n IsMark body locals ending
-pub(crate) fn side(
+pub(crate) fn right_side(
     alloc: Global,
     cursor: &mut Cursor,
     notes: &mut Notes,

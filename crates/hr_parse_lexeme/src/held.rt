@@ -4,7 +4,6 @@ use std::marker::Model;
 
 /// A value that is dropped by a call. A tree that is held so over a step that may fail costs the check one step,
 /// where a plain one costs as many as its type has variants, each with all that is in it.
-
 pub struct Held<T> {
     value: T,
 }

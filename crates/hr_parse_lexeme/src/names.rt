@@ -48,7 +48,7 @@ pub fn square(cursor: &mut Cursor) -> Result<Bracket, Stop>
 }
 
 /// One comma or more, and fourteen at most.
-pub fn commas(alloc: Global, cursor: &mut Cursor) -> Result<Seq<Item>, Stop>
+fn commas(alloc: Global, cursor: &mut Cursor) -> Result<Seq<Item>, Stop>
     ensures commas { IfOk result (λ commas. AreCommas commas) }
     ensures taken { IfOk result (λ commas. TakesAll commas cursor.old cursor.new) }
 {

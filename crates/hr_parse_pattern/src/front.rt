@@ -42,7 +42,7 @@ pub(crate) struct Left {
 
 /// The beginning of a declaration whose nesting is `depth`.
 // will ensure: a variable, below.pat n PatPlace.Whole, or left_side_reading below n, from cursor.old to cursor.new
-pub fn front(
+pub fn beginning(
     alloc: Global,
     cursor: &mut Cursor,
     notes: &mut Notes,

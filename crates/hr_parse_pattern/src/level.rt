@@ -6,12 +6,12 @@ use crate::nodes::{infix, variable_pattern};
 use crate::operators::{constructor_symbol, quoted_constructor};
 use crate::reading::{arguments, constructor_with, negative, operand, pattern};
 use crate::starts::{begins_atomic, begins_pattern, is_symbol};
-use crate::take::{below, expect_kind};
+use crate::take::{below, commas, expect_kind};
 use crate::{Many, Operands, Part};
 use hr_base::Item;
 use hr_layout::Cursor;
 use hr_parse_lexeme::{
-    Kind, Mark, Notes, Sort, Stop, accept, commas, expect, expect_sort, kind_ahead, nest,
+    Kind, Mark, Notes, Sort, Stop, accept, expect, expect_sort, kind_ahead, nest,
 };
 use hr_tree::{Constructor, LeftHead, Operator, Pat, Variable};
 use std::alloc::Global;
@@ -170,7 +170,7 @@ fn behind_variable(
     let kind = kind_ahead(cursor);
     if begins_atomic(kind) {
         let Many { list, height } = arguments_of(alloc, cursor, notes, depth)?;
-        return left(alloc, LeftHead::Prefix(bound, list), height);
+        return headed(alloc, LeftHead::Prefix(bound, list), height);
     }
     if !is_operator(kind) {
         return Ok(Reached::Variable(bound));
@@ -186,7 +186,7 @@ fn is_operator(kind: Kind) -> bool {
         || matches!(kind, Kind::VariableSymbol | Kind::Minus | Kind::Backquote)
 }
 
-fn left(alloc: Global, head: LeftHead, height: u32) -> Result<Reached, Stop> {
+fn headed(alloc: Global, head: LeftHead, height: u32) -> Result<Reached, Stop> {
     Ok(Reached::Left(Left {
         head,
         closes: Vec::new(alloc),
@@ -283,5 +283,5 @@ fn infix_left(
         height: levels,
     } = second;
     let head = LeftHead::Infix(tree.into_inner(), operator, other.into_inner());
-    left(alloc, head, height.max(levels))
+    headed(alloc, head, height.max(levels))
 }

@@ -14,7 +14,7 @@ mod reading;
 mod starts;
 mod take;
 
-pub use front::{Front, front};
+pub use front::{Front, beginning};
 pub use heads::bound_at;
 pub use many::{Many, Parts};
 pub use nodes::{applied, group, infix, leaf, list, tuple, variable_pattern};
@@ -22,4 +22,4 @@ pub use operators::{begins_operator, constructor_symbol, is_constructor_operator
 pub use part::{Operands, Part};
 pub use reading::{arguments, atomic, closed_list, closed_parts, negative, operand, pattern, pattern_behind};
 pub use starts::{begins_atomic, begins_pattern, is_symbol};
-pub use take::{MOST_COMMAS, below, expect_kind, past};
+pub use take::{MOST_COMMAS, below, commas, expect_kind, past};

@@ -1,8 +1,9 @@
 //! Single lexemes by their kind, and depths.
 
-use hr_base::Item;
+use hr_base::{Item, Seq};
 use hr_layout::Cursor;
-use hr_parse_lexeme::{Kind, Stop, kind_ahead};
+use hr_parse_lexeme::{Kind, Mark, Stop, accept, expect, kind_ahead};
+use std::alloc::Global;
 
 /// A tuple has fifteen parts at most.
 pub const MOST_COMMAS: usize = 14;
@@ -28,4 +29,19 @@ pub fn past(cursor: &mut Cursor) -> Result<Item, Stop> {
         None => Err(Stop::Syntax),
         Some(item) => Ok(item),
     }
+}
+
+/// One comma or more, and fourteen at most.
+// will ensure: AreCommas, and that they are taken
+pub fn commas(alloc: Global, cursor: &mut Cursor) -> Result<Seq<Item>, Stop> {
+    let mut list = Vec::new(alloc);
+    let first = expect(cursor, Mark::Comma)?;
+    list.push(first)?;
+    while list.len() < MOST_COMMAS {
+        match accept(cursor, Mark::Comma) {
+            None => return Ok(Seq { list }),
+            Some(comma) => list.push(comma)?,
+        }
+    }
+    Ok(Seq { list })
 }

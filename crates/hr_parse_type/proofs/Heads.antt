@@ -1,12 +1,16 @@
 -- Constructors that begin with a bracket, as types name them.
-use Rattle.std.proofs.Common.{◌≡◌, Result, Ok, Err, IfOk}
+use Rattle.std.proofs.Common.{◌≡◌, Result, Ok, Err, IfOk, subst}
 use Rattle.hr_layout.specs.Standing.{Standing}
+use Rattle.hr_base.specs.declared.lexeme.Item.{Item}
 use Rattle.hr_tree.specs.declared.names.Constructor.{Constructor}
+use Rattle.hr_tree.specs.Names.{constructor_items}
 use Rattle.hr_grammar.specs.Spelled.{IsTypeConstructor}
 use Rattle.hr_parse_lexeme.specs.declared.mark.Mark.{Mark}
 use Rattle.hr_parse_lexeme.specs.declared.names.Bracket.{Bracket}
 use Rattle.hr_parse_lexeme.specs.declared.stop.Stop.{Stop}
+use Rattle.hr_parse_lexeme.specs.Marks.{IsMark}
 use Rattle.hr_parse_lexeme.specs.Names.{IsNameless, Opens}
+use Rattle.hr_parse_lexeme.specs.Reads.{Takes, Spells}
 use Rattle.hr_parse_lexeme.proofs.Phrases.{spells_as}
 use Rattle.hr_parse_type.specs.declared.nodes.Head.{Head}
 use Rattle.hr_parse_type.specs.Heads.{OpensType, ReadsHead}
@@ -31,3 +35,10 @@ pub behind : (mark : Mark) (bracket : Bracket) (result : Result Head Stop) (a b 
     → OpensType mark bracket a b → IfOk result (λ head. ReadsHead head a c)
 behind mark bracket (Ok head) a b c h p = h a p
 behind mark bracket (Err stop) a b c h p = tt
+
+-- by what a bracket turned out to be
+pub named_at : (mark : Mark) {bracket : Bracket} {named : Constructor} {a b : Standing} → bracket ≡ Bracket.Constructor named → OpensType mark bracket a b → Spells IsTypeConstructor constructor_items named a b
+named_at mark {a = a} {b} e h = subst (λ t. OpensType mark t a b) e h
+
+pub open_at : (mark : Mark) {bracket : Bracket} {left : Item} {a b : Standing} → bracket ≡ Bracket.Open left → OpensType mark bracket a b → Takes (IsMark mark) left a b
+open_at mark {a = a} {b} e h = subst (λ t. OpensType mark t a b) e h

@@ -1,5 +1,5 @@
 -- Each node of a type is read where its parts are.
-use Rattle.std.proofs.Common.{◌≡◌, ◌≢◌, ℕ, zero, suc, ◌+◌, ◌<◌, ◌≤◌, max, true, List, [], ◌∷◌, ◌++◌, length, Some, None, refl, sym, ap, ◌∙◌, subst, arith, length-append}
+use Rattle.std.proofs.Common.{◌≡◌, ◌≢◌, ℕ, zero, suc, ◌+◌, ◌-◌, ◌<◌, ◌≤◌, max, true, List, [], ◌∷◌, ◌++◌, length, Some, None, refl, sym, ap, ◌∙◌, subst, arith, length-append}
 use Rattle.std.proofs.lemmas.Bool.{false≢true}
 use Rattle.hr_base.specs.declared.lexeme.Class.{Class}
 use Rattle.hr_base.specs.declared.lexeme.Item.{Item}
@@ -24,7 +24,7 @@ use Rattle.hr_parse_lexeme.specs.Reads.{Reads, Takes, Spells, ReadsEach, ReadsPa
 use Rattle.hr_parse_lexeme.proofs.Phrases.{last, then, item, last_item, name, last_name, where_given, parts_close, only_part, none_between, raised, placed_as, each_none, each_more, parts_begin, parts_more}
 use Rattle.hr_parse_type.specs.declared.nodes.Parts.{Parts}
 use Rattle.hr_parse_type.specs.declared.nodes.Head.{Head}
-use Rattle.hr_parse_type.specs.Heads.{ReadsTy, ReadsHead, ReadsArguments, ReadsTypes}
+use Rattle.hr_parse_type.specs.Heads.{head_height, ReadsTy, ReadsHead, ReadsArguments, ReadsTypes}
 use Rattle.hr_parse_type.specs.Nodes.{atom_of, applied_of, closed_by, closed_of}
 
 -- a node, on the level above its parts
@@ -154,28 +154,64 @@ ty_shrinks {place} {ty} {a} {b} p = readings_shrink_lem.types ty.height _ place 
 pub made : {place : TyPlace} {found ty : Measured Ty} {a b : Standing} → found ≡ ty → ReadsTy place ty a b → ReadsTy place found a b
 made {place} {a} {b} e p = subst (λ t. ReadsTy place t a b) (sym e) p
 
-pub atom_read : {head : Head} {a b : Standing} → ReadsHead head a b → ReadsTy TyPlace.Atomic (atom_of head) a b
-atom_read {head = Head.Named named} p = named_read p
-atom_read {head = Head.Atom ty} p = p
+pub made_tree : {place : TyPlace} {found ty : Ty} {h : ℕ} {a b : Standing} → found ≡ ty → ReadsTy place (record { tree = ty; height = h }) a b → ReadsTy place (record { tree = found; height = h }) a b
+made_tree {place} {h = h} {a} {b} e p = subst (λ t. ReadsTy place (record { tree = t; height = h }) a b) (sym e) p
+
+pub atom_read : (head : Head) {a b : Standing} → ReadsHead head a b → ReadsTy TyPlace.Atomic (atom_of head) a b
+atom_read (Head.Named named) p = named_read p
+atom_read (Head.Atom ty) p = p
+
+pub made_name : {found named : Constructor} {a b : Standing} → found ≡ named → Spells IsTypeConstructor constructor_items named a b → Spells IsTypeConstructor constructor_items found a b
+made_name {a} {b} e p = subst (λ t. Spells IsTypeConstructor constructor_items t a b) (sym e) p
 
 -- arguments: none yet, and one more
 pub no_arguments : {list : List Ty} (a : Standing) → list ≡ [] → ReadsEach 0 (λ below n. below.ty n TyPlace.Atomic) list a a
 no_arguments a e = subst (λ l. ReadsEach 0 (λ below n. below.ty n TyPlace.Atomic) l a a) (sym e) (each_none _ a)
 
-pub one_argument : {h k m : ℕ} {list more : List Ty} {ty : Ty} {a b c : Standing} → ReadsEach h (λ below n. below.ty n TyPlace.Atomic) list a b
-    → ReadsTy TyPlace.Atomic (record { tree = ty; height = k }) b c → more ≡ list ++ ty ∷ [] → m ≡ max k h → ReadsEach m (λ below n. below.ty n TyPlace.Atomic) more a c
-one_argument {h} {k} {a} {c} p q e f =
-    subst (λ l. ReadsEach _ (λ below n. below.ty n TyPlace.Atomic) l a c) (sym e)
-    (subst (λ m. ReadsEach m (λ below n. below.ty n TyPlace.Atomic) _ a c) (sym f) (each_more (max k h) p (right_of_max k h) q (left_of_max k h)))
+pub one_argument : {h m : ℕ} {list more : List Ty} {ty : Measured Ty} {part : Ty} {a b c : Standing} → ReadsEach h (λ below n. below.ty n TyPlace.Atomic) list a b
+    → ReadsTy TyPlace.Atomic ty b c → part ≡ ty.tree → more ≡ list ++ part ∷ [] → m ≡ max ty.height h → ReadsEach m (λ below n. below.ty n TyPlace.Atomic) more a c
+one_argument {h} {m} {list} {ty} {a} {c} p q t e f =
+    subst (λ l. ReadsEach m (λ below n. below.ty n TyPlace.Atomic) l a c) (sym (e ∙ ap (λ x. list ++ x ∷ []) t))
+    (subst (λ k. ReadsEach k (λ below n. below.ty n TyPlace.Atomic) (list ++ ty.tree ∷ []) a c) (sym f) (each_more (max ty.height h) p (right_of_max ty.height h) q (left_of_max ty.height h)))
 
 -- types with commas: a first one, and one more
-pub first_type : {h : ℕ} {others : List (Listed Ty)} {ty : Ty} {a b : Standing} → ReadsTy TyPlace.Whole (record { tree = ty; height = h }) a b → others ≡ []
-    → ReadsParts h IsComma (λ below n. below.ty n TyPlace.Whole) others ty a b
-first_type {h} {ty = ty} {a} {b} p e = subst (λ l. ReadsParts h IsComma (λ below n. below.ty n TyPlace.Whole) l ty a b) (sym e) (parts_begin IsComma _ ty p)
+pub first_type : {ty : Measured Ty} {others : List (Listed Ty)} {a b : Standing} → ReadsTy TyPlace.Whole ty a b → others ≡ []
+    → ReadsParts ty.height IsComma (λ below n. below.ty n TyPlace.Whole) others ty.tree a b
+first_type {ty} {a} {b} p e = subst (λ l. ReadsParts ty.height IsComma (λ below n. below.ty n TyPlace.Whole) l ty.tree a b) (sym e) (parts_begin IsComma _ ty.tree p)
 
-pub next_type : {h k m : ℕ} {others more : List (Listed Ty)} {ty part next : Ty} {comma : Item} {a b c d : Standing} → ReadsParts h IsComma (λ below n. below.ty n TyPlace.Whole) others ty a b
-    → Takes IsComma comma b c → ReadsTy TyPlace.Whole (record { tree = next; height = k }) c d → part ≡ ty → more ≡ others ++ record { part = part; separator = Some comma } ∷ [] → m ≡ max k h
-    → ReadsParts m IsComma (λ below n. below.ty n TyPlace.Whole) more next a d
-next_type {h} {k} {others} {next = next} {comma} {a} {d = d} p q r t e f =
-    subst (λ l. ReadsParts _ IsComma (λ below n. below.ty n TyPlace.Whole) l next a d) (sym (e ∙ ap (λ x. others ++ record { part = x; separator = Some comma } ∷ []) t))
-    (subst (λ m. ReadsParts m IsComma (λ below n. below.ty n TyPlace.Whole) _ next a d) (sym f) (parts_more next (max k h) p (right_of_max k h) q r (left_of_max k h)))
+pub next_type : {h m : ℕ} {others more : List (Listed Ty)} {last part : Ty} {next : Measured Ty} {comma : Item} {a b c d : Standing} → ReadsParts h IsComma (λ below n. below.ty n TyPlace.Whole) others last a b
+    → Takes IsComma comma b c → ReadsTy TyPlace.Whole next c d → part ≡ last → more ≡ others ++ record { part = part; separator = Some comma } ∷ [] → m ≡ max next.height h
+    → ReadsParts m IsComma (λ below n. below.ty n TyPlace.Whole) more next.tree a d
+next_type {h} {m} {others} {last} {next} {comma} {a} {d} p q r t e f =
+    subst (λ l. ReadsParts m IsComma (λ below n. below.ty n TyPlace.Whole) l next.tree a d) (sym (e ∙ ap (λ x. others ++ record { part = x; separator = Some comma } ∷ []) t))
+    (subst (λ k. ReadsParts k IsComma (λ below n. below.ty n TyPlace.Whole) (others ++ record { part = last; separator = Some comma } ∷ []) next.tree a d) (sym f)
+    (parts_more next.tree (max next.height h) p (right_of_max next.height h) q r (left_of_max next.height h)))
+
+pub parts_stay : {parts : Parts} {a b c : Standing} → c ≡ b → ReadsTypes parts a b → ReadsTypes parts a c
+parts_stay {parts} {a} e p = subst (λ s. ReadsTypes parts a s) (sym e) p
+
+-- heights that fit below a depth
+pub more_fits : (depth h k m : ℕ) → depth + h ≤ 256 → depth + k ≤ 256 → m ≡ max k h → depth + m ≤ 256
+more_fits depth h k m p q e = omega arith
+
+pub head_fits : (depth h m : ℕ) (head : Head) (found : Measured Ty) → found ≡ atom_of head → depth + h ≤ 256 → depth + head_height head ≤ 256 → m ≡ max found.height h → depth + m ≤ 256
+head_fits depth h m (Head.Named named) found e p q f = more_fits depth h found.height m p (subst (λ t. depth + t ≤ 256) (sym (ap (λ t. t.height) e)) q) f
+head_fits depth h m (Head.Atom ty) found e p q f = more_fits depth h found.height m p (subst (λ t. depth + t ≤ 256) (sym (ap (λ t. t.height) e)) q) f
+
+-- how many parts there are
+pub none_few : (others : List (Listed Ty)) → others ≡ [] → length others ≤ 14
+none_few others e = omega (arith, ap length e)
+
+pub more_few : (others more : List (Listed Ty)) (part : Listed Ty) → more ≡ others ++ part ∷ [] → length others < 14 → length more ≤ 14
+more_few others more part e h = omega (arith, ap length e, length-append others (part ∷ []))
+
+pub one_fewer : (others more : List (Listed Ty)) (part : Listed Ty) → more ≡ others ++ part ∷ [] → length others < 14 → 14 - length more < 14 - length others
+one_fewer others more part e h = omega (arith, ap length e, length-append others (part ∷ []))
+
+within : (depth h : ℕ) → depth + h ≤ 256 → h ≤ 256 - depth
+within depth h p = omega arith
+
+-- on all the levels below a depth
+pub within_depth : (depth : ℕ) {ty : Measured Ty} {found : Ty} {a b : Standing} → found ≡ ty.tree → ReadsTy TyPlace.Whole ty a b → depth + ty.height ≤ 256
+    → Reads (256 - depth) (λ below n. below.ty n TyPlace.Whole found) a b
+within_depth depth {ty} {a = a} {b} e p fits = subst (λ t. Reads (256 - depth) (λ below n. below.ty n TyPlace.Whole t) a b) (sym e) (last p (within depth ty.height fits))

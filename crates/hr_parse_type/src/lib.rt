@@ -4,7 +4,9 @@
 mod nodes;
 mod reading;
 
-pub use reading::{applied_type, applied_type_behind, atomic_type, ty, whole_type};
+pub use reading::{
+    Begun, applied_type, atomic_type, begins_type, constructor_or_type, ty, whole_type,
+};
 
 #[cfg(test)]
 mod tests;

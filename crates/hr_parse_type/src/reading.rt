@@ -1,7 +1,5 @@
 //! Types: the Haskell 98 Report, section 4.1.2. A type is read from left to right, and what the next lexeme can
 //! begin decides: each choice leaves one production.
-#![tactic(none)]
-
 ghost use Rattle.std.specs.Prelude.{◌≡◌, ◌+◌, ◌-◌, ◌<◌, ◌≤◌, length, IfOk};
 ghost use Rattle.hr_layout.specs.Standing.{Standing};
 ghost use Rattle.hr_grammar.specs.Nodes.{TyPlace};
@@ -10,10 +8,9 @@ ghost use Rattle.hr_parse_lexeme.specs.declared.mark.Mark.{Mark};
 ghost use Rattle.hr_parse_type.specs.Heads.{head_height, OpensType, ReadsArguments, ReadsHead, ReadsTy, ReadsTypes};
 
 use crate::nodes::{Head, Parts, applied, atom, closed, function, list};
-use hr_base::Item;
 use hr_layout::Cursor;
 use hr_parse_lexeme::{
-    Bracket, Held, Kind, commas, Mark, Measured, Notes, ParseError, Sort, Stop, accept, expect,
+    Bracket, Held, Kind, Mark, Measured, Notes, ParseError, Sort, Stop, accept, expect,
     expect_sort, is_next, kind_ahead, nest, parenthesis, refusal, square,
 };
 use hr_tree::{Constructor, Listed, Ty};
@@ -70,52 +67,49 @@ pub fn applied_type(alloc: Global, cursor: &mut Cursor, depth: u32) -> Result<Me
     }
 }
 
-/// One side of an arrow that begins with a parenthesis, behind it.
-pub fn applied_type_behind(
+/// What begins with a parenthesis in a data declaration: a constructor operator in parentheses, or one side of an
+/// arrow.
+#[derive(Drop)]
+pub enum Begun {
+    Constructor(Held<Constructor>),
+    Type(Measured<Ty>),
+}
+
+pub fn constructor_or_type(
     alloc: Global,
     cursor: &mut Cursor,
     depth: u32,
-    left: Item,
+) -> Result<Begun, Stop>
+    requires { depth ≤ 256 }
+{
+    nest(depth, 1)?;
+    let left = match type_parenthesis(alloc, cursor)? {
+        Bracket::Constructor(named) => return Ok(Begun::Type(with_arguments(alloc, cursor, depth, Held::new(named))?)),
+        Bracket::Open(left) => left,
+    };
+    if let Kind::ConstructorSymbol = kind_ahead(cursor) {
+        let symbol = expect_sort(cursor, Sort::ConstructorSymbol)?;
+        let right = expect(cursor, Mark::RightParen)?;
+        return Ok(Begun::Constructor(Held::new(Constructor::Symbol(
+            left, symbol, right,
+        ))));
+    }
+    match in_parentheses(alloc, cursor, depth, Bracket::Open(left))? {
+        Head::Named(named) => Ok(Begun::Type(with_arguments(alloc, cursor, depth, named)?)),
+        Head::Atom(ty) => Ok(Begun::Type(ty)),
+    }
+}
+
+fn with_arguments(
+    alloc: Global,
+    cursor: &mut Cursor,
+    depth: u32,
+    named: Held<Constructor>,
 ) -> Result<Measured<Ty>, Stop>
     requires { depth < 256 }
 {
-    match head_behind(alloc, cursor, depth, left)? {
-        Head::Named(named) => {
-            let arguments = arguments(alloc, cursor, depth + 1)?;
-            Ok(applied(named, arguments))
-        }
-        Head::Atom(ty) => Ok(ty),
-    }
-}
-
-/// What a parenthesis that was taken begins.
-fn head_behind(
-    alloc: Global,
-    cursor: &mut Cursor,
-    depth: u32,
-    left: Item,
-) -> Result<Head, Stop>
-    requires { depth < 256 }
-{
-    let bracket = bracket_behind(alloc, cursor, left)?;
-    in_parentheses(alloc, cursor, depth, bracket)
-}
-
-/// A constructor without a name behind a parenthesis, or the parenthesis alone.
-fn bracket_behind(alloc: Global, cursor: &mut Cursor, left: Item) -> Result<Bracket, Stop> {
-    if let Some(right) = accept(cursor, Mark::RightParen) {
-        return Ok(Bracket::Constructor(Constructor::Unit(left, right)));
-    }
-    if let Some(arrow) = accept(cursor, Mark::Arrow) {
-        let right = expect(cursor, Mark::RightParen)?;
-        return Ok(Bracket::Constructor(Constructor::Symbol(left, arrow, right)));
-    }
-    if !is_next(cursor, Mark::Comma) {
-        return Ok(Bracket::Open(left));
-    }
-    let commas = commas(alloc, cursor)?;
-    let right = expect(cursor, Mark::RightParen)?;
-    Ok(Bracket::Constructor(Constructor::Tuple(left, commas, right)))
+    let arguments = arguments(alloc, cursor, depth + 1)?;
+    Ok(applied(named, arguments))
 }
 
 /// An atomic type.
@@ -300,7 +294,7 @@ fn type_square(cursor: &mut Cursor) -> Result<Bracket, Stop>
 }
 
 /// Whether an atomic type can begin so.
-fn begins_type(kind: Kind) -> bool {
+pub fn begins_type(kind: Kind) -> bool {
     matches!(
         kind,
         Kind::Variable
