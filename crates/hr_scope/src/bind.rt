@@ -11,6 +11,7 @@ use hr_tree::Module;
 use std::alloc::{AllocError, Global};
 
 /// A module whose names are being bound.
+#[derive(Clone, Copy, Drop)]
 struct Scene<'a, 'b> {
     alloc: Global,
     project: &'b Project<'a>,

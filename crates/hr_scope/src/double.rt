@@ -14,7 +14,7 @@ enum Once {
     Parameter,
 }
 
-fn once(role: Role) -> Option<Once> {
+fn counted(role: Role) -> Option<Once> {
     match role {
         Role::Declares(space) => Some(Once::Declared(space)),
         Role::Signs => Some(Once::Signed),
@@ -37,7 +37,7 @@ pub(crate) fn first_double(
         .zip(locals.spellings.iter())
         .enumerate()
     {
-        if let Some(once) = once(mark.role) {
+        if let Some(once) = counted(mark.role) {
             let key = (once, mark.region, *spelling);
             if let Some(first) = seen.get(&key) {
                 return Ok(Some((*first, number)));
