@@ -1,6 +1,6 @@
 use crate::access::{Access, accesses};
 use hr_base::{Entity, Space, Text};
-use hr_outline::{Names, Outline, Parts, module_name, outline, own_entities, parts};
+use hr_outline::{Names, Outline, Parts, module_name, outline_of, own_entities, type_parts};
 use hr_tree::Module;
 use indexmap::{IndexMap, IndexSet};
 use std::alloc::{AllocError, Global};
@@ -27,10 +27,10 @@ pub(crate) struct Units<'a> {
 
 fn unit_of(alloc: Global, tree: &Module) -> Result<Unit<'_>, AllocError> {
     let name = module_name(alloc, tree)?;
-    let outline = outline(alloc, tree)?;
+    let outline = outline_of(alloc, tree)?;
     Ok(Unit {
         own: own_entities(alloc, &name, &outline)?,
-        parts: parts(alloc, &outline)?,
+        parts: type_parts(alloc, &outline)?,
         accesses: accesses(alloc, &name, tree)?,
         tree,
         name,

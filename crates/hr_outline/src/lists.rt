@@ -1,138 +1,195 @@
 use crate::Outline;
-use crate::roles::Naming;
-use hr_base::Space;
-use hr_scope_rules::Role;
+use crate::names::{read_constructors, read_maybe, read_two, read_variable};
+use hr_base::{Item, Space};
+use hr_scope_rules::Naming;
 use hr_tree::{
     Alias, Export, Header, Import, ImportNames, Imported, Layout, Listed, Members, NameList,
 };
 use std::alloc::AllocError;
 
-/// What a list of an import does with the module that the lexeme of that number names.
-#[derive(Clone, Copy)]
-enum Listing {
-    Brings(usize),
-    Hides(usize),
+pub(crate) fn read_opening<'a>(
+    layout: &'a Layout,
+    out: &mut Outline<'a>,
+) -> Result<(), AllocError> {
+    match layout {
+        Layout::Implicit { .. } => Ok(()),
+        Layout::Explicit(left, _) => out.plain(left),
+    }
 }
 
-impl<'a> Outline<'a> {
-    pub(crate) fn opening(&mut self, layout: &'a Layout) -> Result<(), AllocError> {
-        match layout {
-            Layout::Implicit { .. } => Ok(()),
-            Layout::Explicit(left, _) => self.plain(left, None),
+pub(crate) fn read_closing<'a>(
+    layout: &'a Layout,
+    out: &mut Outline<'a>,
+) -> Result<(), AllocError> {
+    match layout {
+        Layout::Implicit { .. } => Ok(()),
+        Layout::Explicit(_, right) => out.plain(right),
+    }
+}
+
+pub(crate) fn read_header<'a>(
+    header: &'a Option<Header>,
+    out: &mut Outline<'a>,
+) -> Result<(), AllocError> {
+    match header {
+        Some(header) => {
+            read_two(&header.word, &header.name, out)?;
+            read_exports(&header.exports, out)?;
+            out.plain(&header.opening)
+        }
+        None => Ok(()),
+    }
+}
+
+fn read_exports<'a>(
+    exports: &'a Option<NameList<Export>>,
+    out: &mut Outline<'a>,
+) -> Result<(), AllocError> {
+    match exports {
+        Some(names) => {
+            out.plain(&names.left)?;
+            read_export_items(names.list.as_slice(), out)?;
+            read_maybe(&names.last_comma, out)?;
+            out.plain(&names.right)
+        }
+        None => Ok(()),
+    }
+}
+
+fn read_export_items<'a>(
+    list: &'a [Listed<Export>],
+    out: &mut Outline<'a>,
+) -> Result<(), AllocError> {
+    for listed in list {
+        read_export(&listed.part, out)?;
+        read_maybe(&listed.separator, out)?;
+    }
+    Ok(())
+}
+
+fn read_export<'a>(export: &'a Export, out: &mut Outline<'a>) -> Result<(), AllocError> {
+    match export {
+        Export::Variable(variable) => {
+            read_variable(variable, Naming::Exported(Space::Value), out)
+        }
+        Export::Type(name, members) => {
+            out.begin()?;
+            out.put(name, Naming::Exported(Space::TypeName))?;
+            read_members(members, Naming::ExportedPart, out)?;
+            out.end();
+            Ok(())
+        }
+        Export::Module(word, name) => read_two(word, name, out),
+    }
+}
+
+fn read_members<'a>(
+    members: &'a Option<Members>,
+    naming: Naming,
+    out: &mut Outline<'a>,
+) -> Result<(), AllocError> {
+    match members {
+        None => Ok(()),
+        Some(Members::All(left, dots, right)) => {
+            read_two(left, dots, out)?;
+            out.plain(right)
+        }
+        Some(Members::Named(left, list, right)) => {
+            out.plain(left)?;
+            read_constructors(list.as_slice(), naming, out)?;
+            out.plain(right)
         }
     }
+}
 
-    pub(crate) fn closing(&mut self, layout: &'a Layout) -> Result<(), AllocError> {
-        match layout {
-            Layout::Implicit { .. } => Ok(()),
-            Layout::Explicit(_, right) => self.plain(right, None),
+pub(crate) fn read_import<'a>(import: &'a Import, out: &mut Outline<'a>) -> Result<(), AllocError> {
+    out.plain(&import.word)?;
+    read_maybe(&import.qualified, out)?;
+    out.begin()?;
+    out.plain(&import.module)?;
+    read_alias(&import.alias, out)?;
+    read_import_names(&import.names, out)?;
+    out.end();
+    Ok(())
+}
+
+fn read_alias<'a>(alias: &'a Option<Alias>, out: &mut Outline<'a>) -> Result<(), AllocError> {
+    match alias {
+        Some(alias) => read_two(&alias.word, &alias.name, out),
+        None => Ok(()),
+    }
+}
+
+fn read_import_names<'a>(
+    names: &'a Option<ImportNames>,
+    out: &mut Outline<'a>,
+) -> Result<(), AllocError> {
+    match names {
+        None => Ok(()),
+        Some(names) => read_listing(&names.hiding, &names.list, out),
+    }
+}
+
+fn read_listing<'a>(
+    hiding: &'a Option<Item>,
+    names: &'a NameList<Imported>,
+    out: &mut Outline<'a>,
+) -> Result<(), AllocError> {
+    match hiding {
+        None => {
+            out.plain(&names.left)?;
+            read_imported_items(names.list.as_slice(), out)?;
+        }
+        Some(word) => {
+            read_two(word, &names.left, out)?;
+            read_hidden_items(names.list.as_slice(), out)?;
         }
     }
+    read_maybe(&names.last_comma, out)?;
+    out.plain(&names.right)
+}
 
-    pub(crate) fn header(&mut self, header: &'a Header) -> Result<(), AllocError> {
-        self.plain(&header.word, None)?;
-        self.plain(&header.name, None)?;
-        if let Some(names) = &header.exports {
-            self.plain(&names.left, None)?;
-            self.exports(names.list.as_slice())?;
-            self.list_end(names)?;
-        }
-        self.plain(&header.opening, None)
+fn read_imported_items<'a>(
+    list: &'a [Listed<Imported>],
+    out: &mut Outline<'a>,
+) -> Result<(), AllocError> {
+    for listed in list {
+        read_imported(&listed.part, out)?;
+        read_maybe(&listed.separator, out)?;
     }
+    Ok(())
+}
 
-    fn list_end<T>(&mut self, names: &'a NameList<T>) -> Result<(), AllocError> {
-        self.maybe_plain(&names.last_comma, None)?;
-        self.plain(&names.right, None)
+fn read_hidden_items<'a>(
+    list: &'a [Listed<Imported>],
+    out: &mut Outline<'a>,
+) -> Result<(), AllocError> {
+    for listed in list {
+        read_hidden(&listed.part, out)?;
+        read_maybe(&listed.separator, out)?;
     }
+    Ok(())
+}
 
-    fn exports(&mut self, list: &'a [Listed<Export>]) -> Result<(), AllocError> {
-        for listed in list {
-            self.export(&listed.part)?;
-            self.maybe_plain(&listed.separator, None)?;
-        }
-        Ok(())
-    }
-
-    fn export(&mut self, export: &'a Export) -> Result<(), AllocError> {
-        match export {
-            Export::Variable(variable) => {
-                self.variable(variable, Naming::As(Role::Exported(Space::Value)), None)
-            }
-            Export::Type(name, members) => {
-                let ty = self.here();
-                self.put(name, Role::Exported(Space::TypeName), None)?;
-                self.members(members, Role::ExportedPart(ty))
-            }
-            Export::Module(word, name) => {
-                self.plain(word, None)?;
-                self.plain(name, None)
-            }
+fn read_imported<'a>(imported: &'a Imported, out: &mut Outline<'a>) -> Result<(), AllocError> {
+    match imported {
+        Imported::Variable(variable) => read_variable(variable, Naming::Imported, out),
+        Imported::Type(name, members) => {
+            out.begin()?;
+            out.put(name, Naming::ImportedType)?;
+            read_members(members, Naming::ImportedPart, out)?;
+            out.end();
+            Ok(())
         }
     }
+}
 
-    fn members(&mut self, members: &'a Option<Members>, role: Role) -> Result<(), AllocError> {
-        match members {
-            None => Ok(()),
-            Some(Members::All(left, dots, right)) => {
-                self.plain(left, None)?;
-                self.plain(dots, None)?;
-                self.plain(right, None)
-            }
-            Some(Members::Named(left, list, right)) => {
-                self.plain(left, None)?;
-                self.constructors(list.as_slice(), Naming::IfName(role), None)?;
-                self.plain(right, None)
-            }
-        }
-    }
-
-    pub(crate) fn import(&mut self, import: &'a Import) -> Result<(), AllocError> {
-        self.plain(&import.word, None)?;
-        self.maybe_plain(&import.qualified, None)?;
-        let origin = self.here();
-        self.plain(&import.module, None)?;
-        if let Some(Alias { word, name }) = &import.alias {
-            self.plain(word, None)?;
-            self.plain(name, None)?;
-        }
-        match &import.names {
-            Some(names) => self.import_names(names, origin),
-            None => Ok(()),
-        }
-    }
-
-    fn import_names(&mut self, names: &'a ImportNames, origin: usize) -> Result<(), AllocError> {
-        let listing = match &names.hiding {
-            Some(_) => Listing::Hides(origin),
-            None => Listing::Brings(origin),
-        };
-        self.maybe_plain(&names.hiding, None)?;
-        self.plain(&names.list.left, None)?;
-        for listed in names.list.list.as_slice() {
-            self.imported(&listed.part, listing)?;
-            self.maybe_plain(&listed.separator, None)?;
-        }
-        self.list_end(&names.list)
-    }
-
-    fn imported(&mut self, imported: &'a Imported, listing: Listing) -> Result<(), AllocError> {
-        match (imported, listing) {
-            (Imported::Variable(variable), Listing::Brings(origin)) => {
-                let role = Role::Imported(origin, Space::Value);
-                self.variable(variable, Naming::As(role), None)
-            }
-            (Imported::Type(name, members), Listing::Brings(origin)) => {
-                let ty = self.here();
-                self.put(name, Role::Imported(origin, Space::TypeName), None)?;
-                self.members(members, Role::ImportedPart(origin, ty))
-            }
-            (Imported::Variable(variable), Listing::Hides(origin)) => {
-                self.variable(variable, Naming::As(Role::Hidden(origin)), None)
-            }
-            (Imported::Type(name, members), Listing::Hides(origin)) => {
-                self.put(name, Role::Hidden(origin), None)?;
-                self.members(members, Role::Hidden(origin))
-            }
+fn read_hidden<'a>(imported: &'a Imported, out: &mut Outline<'a>) -> Result<(), AllocError> {
+    match imported {
+        Imported::Variable(variable) => read_variable(variable, Naming::Hidden, out),
+        Imported::Type(name, members) => {
+            out.put(name, Naming::Hidden)?;
+            read_members(members, Naming::Hidden, out)
         }
     }
 }

@@ -1,15 +1,20 @@
 use crate::Outline;
+use crate::declarations::{goes_on, passed};
+use crate::expressions::read_piece;
+use crate::lists::{read_closing, read_header, read_opening};
 use hr_tree::Module;
 use std::alloc::{AllocError, Global};
 
-/// The lexemes of the module with their roles and regions.
-pub fn outline(alloc: Global, tree: &Module) -> Result<Outline<'_>, AllocError> {
+/// The lexemes of the module with their roles, and the regions that are entered.
+pub fn outline_of(alloc: Global, tree: &Module) -> Result<Outline<'_>, AllocError> {
     let mut outline = Outline::new(alloc);
-    if let Some(header) = &tree.header {
-        outline.header(header)?;
+    read_header(&tree.header, &mut outline)?;
+    read_opening(&tree.body.layout, &mut outline)?;
+    let mut before = None;
+    for piece in tree.body.pieces.as_slice() {
+        read_piece(piece, goes_on(before, piece), &mut outline)?;
+        before = passed(before, piece);
     }
-    outline.opening(&tree.body.layout)?;
-    outline.pieces(tree.body.pieces.as_slice(), None)?;
-    outline.closing(&tree.body.layout)?;
+    read_closing(&tree.body.layout, &mut outline)?;
     Ok(outline)
 }

@@ -1,117 +1,134 @@
 use crate::Outline;
-use crate::roles::Naming;
+use hr_base::Item;
+use hr_scope_rules::Naming;
 use hr_tree::{Constructor, Listed, Operator, Variable};
 use std::alloc::AllocError;
 
-impl<'a> Outline<'a> {
-    pub(crate) fn variable(
-        &mut self,
-        variable: &'a Variable,
-        naming: Naming,
-        region: Option<usize>,
-    ) -> Result<(), AllocError> {
-        match variable {
-            Variable::Name(name) => self.named(name, naming, region),
-            Variable::Symbol(left, symbol, right) => {
-                self.plain(left, region)?;
-                self.named(symbol, naming, region)?;
-                self.plain(right, region)
-            }
-        }
+pub(crate) fn read_all_plain<'a>(
+    items: &'a [Item],
+    out: &mut Outline<'a>,
+) -> Result<(), AllocError> {
+    for item in items {
+        out.plain(item)?;
     }
+    Ok(())
+}
 
-    pub(crate) fn variables(
-        &mut self,
-        list: &'a [Listed<Variable>],
-        naming: Naming,
-        region: Option<usize>,
-    ) -> Result<(), AllocError> {
-        for listed in list {
-            self.variable(&listed.part, naming, region)?;
-            self.maybe_plain(&listed.separator, region)?;
-        }
-        Ok(())
+pub(crate) fn read_maybe<'a>(
+    item: &'a Option<Item>,
+    out: &mut Outline<'a>,
+) -> Result<(), AllocError> {
+    match item {
+        Some(item) => out.plain(item),
+        None => Ok(()),
     }
+}
 
-    pub(crate) fn constructor(
-        &mut self,
-        constructor: &'a Constructor,
-        naming: Naming,
-        region: Option<usize>,
-    ) -> Result<(), AllocError> {
-        match constructor {
-            Constructor::Name(name) => self.named(name, naming, region),
-            Constructor::Symbol(left, symbol, right) => {
-                self.plain(left, region)?;
-                self.named(symbol, naming, region)?;
-                self.plain(right, region)
-            }
-            Constructor::Unit(left, right) => {
-                self.plain(left, region)?;
-                self.plain(right, region)
-            }
-            Constructor::EmptyList(left, right) => {
-                self.plain(left, region)?;
-                self.plain(right, region)
-            }
-            Constructor::Tuple(left, commas, right) => {
-                self.plain(left, region)?;
-                self.all_plain(commas.as_slice(), region)?;
-                self.plain(right, region)
-            }
-        }
-    }
+/// Two lexemes that are no names.
+pub(crate) fn read_two<'a>(
+    first: &'a Item,
+    second: &'a Item,
+    out: &mut Outline<'a>,
+) -> Result<(), AllocError> {
+    out.plain(first)?;
+    out.plain(second)
+}
 
-    pub(crate) fn constructors(
-        &mut self,
-        list: &'a [Listed<Constructor>],
-        naming: Naming,
-        region: Option<usize>,
-    ) -> Result<(), AllocError> {
-        for listed in list {
-            self.constructor(&listed.part, naming, region)?;
-            self.maybe_plain(&listed.separator, region)?;
-        }
-        Ok(())
-    }
+/// A name in parentheses.
+fn read_symbol<'a>(
+    left: &'a Item,
+    symbol: &'a Item,
+    right: &'a Item,
+    naming: Naming,
+    out: &mut Outline<'a>,
+) -> Result<(), AllocError> {
+    out.plain(left)?;
+    out.put(symbol, naming)?;
+    out.plain(right)
+}
 
-    pub(crate) fn operator(
-        &mut self,
-        operator: &'a Operator,
-        naming: Naming,
-        region: Option<usize>,
-    ) -> Result<(), AllocError> {
-        match operator {
-            Operator::Symbol(symbol) => self.named(symbol, naming, region),
-            Operator::Quoted(left, name, right) => {
-                self.plain(left, region)?;
-                self.named(name, naming, region)?;
-                self.plain(right, region)
-            }
-        }
+pub(crate) fn read_variable<'a>(
+    variable: &'a Variable,
+    naming: Naming,
+    out: &mut Outline<'a>,
+) -> Result<(), AllocError> {
+    match variable {
+        Variable::Name(name) => out.put(name, naming),
+        Variable::Symbol(left, symbol, right) => read_symbol(left, symbol, right, naming, out),
     }
+}
 
-    pub(crate) fn maybe_operator(
-        &mut self,
-        operator: &'a Option<Operator>,
-        region: Option<usize>,
-    ) -> Result<(), AllocError> {
-        match operator {
-            Some(operator) => self.operator(operator, Naming::Used, region),
-            None => Ok(()),
-        }
+pub(crate) fn read_variables<'a>(
+    list: &'a [Listed<Variable>],
+    naming: Naming,
+    out: &mut Outline<'a>,
+) -> Result<(), AllocError> {
+    for listed in list {
+        read_variable(&listed.part, naming, out)?;
+        read_maybe(&listed.separator, out)?;
     }
+    Ok(())
+}
 
-    pub(crate) fn operators(
-        &mut self,
-        list: &'a [Listed<Operator>],
-        naming: Naming,
-        region: Option<usize>,
-    ) -> Result<(), AllocError> {
-        for listed in list {
-            self.operator(&listed.part, naming, region)?;
-            self.maybe_plain(&listed.separator, region)?;
+pub(crate) fn read_constructor<'a>(
+    constructor: &'a Constructor,
+    naming: Naming,
+    out: &mut Outline<'a>,
+) -> Result<(), AllocError> {
+    match constructor {
+        Constructor::Name(name) => out.put(name, naming),
+        Constructor::Symbol(left, symbol, right) => read_symbol(left, symbol, right, naming, out),
+        Constructor::Unit(left, right) => read_two(left, right, out),
+        Constructor::EmptyList(left, right) => read_two(left, right, out),
+        Constructor::Tuple(left, commas, right) => {
+            out.plain(left)?;
+            read_all_plain(commas.as_slice(), out)?;
+            out.plain(right)
         }
-        Ok(())
     }
+}
+
+pub(crate) fn read_constructors<'a>(
+    list: &'a [Listed<Constructor>],
+    naming: Naming,
+    out: &mut Outline<'a>,
+) -> Result<(), AllocError> {
+    for listed in list {
+        read_constructor(&listed.part, naming, out)?;
+        read_maybe(&listed.separator, out)?;
+    }
+    Ok(())
+}
+
+pub(crate) fn read_operator<'a>(
+    operator: &'a Operator,
+    naming: Naming,
+    out: &mut Outline<'a>,
+) -> Result<(), AllocError> {
+    match operator {
+        Operator::Symbol(symbol) => out.put(symbol, naming),
+        Operator::Quoted(left, name, right) => read_symbol(left, name, right, naming, out),
+    }
+}
+
+pub(crate) fn read_maybe_operator<'a>(
+    operator: &'a Option<Operator>,
+    out: &mut Outline<'a>,
+) -> Result<(), AllocError> {
+    match operator {
+        Some(operator) => read_operator(operator, Naming::Used, out),
+        None => Ok(()),
+    }
+}
+
+pub(crate) fn read_operators<'a>(
+    list: &'a [Listed<Operator>],
+    naming: Naming,
+    out: &mut Outline<'a>,
+) -> Result<(), AllocError> {
+    for listed in list {
+        read_operator(&listed.part, naming, out)?;
+        read_maybe(&listed.separator, out)?;
+    }
+    Ok(())
 }

@@ -1,108 +1,95 @@
 use crate::Outline;
-use crate::roles::Naming;
-use hr_base::Space;
-use hr_scope_rules::Role;
+use crate::names::{read_constructor, read_maybe, read_maybe_operator, read_two, read_variable};
+use hr_base::Item;
+use hr_scope_rules::Naming;
 use hr_tree::{Field, Listed, Operand, Pat};
 use std::alloc::AllocError;
 
-/// The variables of a pattern are declared by it.
-const BOUND: Naming = Naming::As(Role::Declares(Space::Value));
-
-impl<'a> Outline<'a> {
-    #[cycle(patterns)]
-    pub(crate) fn pat(&mut self, pat: &'a Pat, region: Option<usize>) -> Result<(), AllocError> {
-        match pat {
-            Pat::Variable(variable) => self.variable(variable, BOUND, region),
-            Pat::Wildcard(item) | Pat::Literal(item) => self.plain(item, region),
-            Pat::Negative(minus, literal) => {
-                self.plain(minus, region)?;
-                self.plain(literal, region)
-            }
-            Pat::Constructor(constructor) => self.constructor(constructor, Naming::Used, region),
-            Pat::As(variable, mark, part) => {
-                self.variable(variable, BOUND, region)?;
-                self.plain(mark, region)?;
-                self.pat(part.get(), region)
-            }
-            Pat::Lazy(mark, part) => {
-                self.plain(mark, region)?;
-                self.pat(part.get(), region)
-            }
-            Pat::Apply(constructor, arguments) => {
-                self.constructor(constructor, Naming::Used, region)?;
-                self.pats(arguments.as_slice(), region)
-            }
-            Pat::Infix(operands) => self.pat_operands(operands.as_slice(), region),
-            Pat::Tuple(left, parts, right) | Pat::List(left, parts, right) => {
-                self.plain(left, region)?;
-                self.listed_pats(parts.as_slice(), region)?;
-                self.plain(right, region)
-            }
-            Pat::Group(left, part, right) => {
-                self.plain(left, region)?;
-                self.pat(part.get(), region)?;
-                self.plain(right, region)
-            }
-            Pat::Fields(constructor, left, fields, right) => {
-                self.constructor(constructor, Naming::Used, region)?;
-                self.plain(left, region)?;
-                self.pat_fields(fields.as_slice(), region)?;
-                self.plain(right, region)
-            }
+#[cycle(patterns)]
+pub(crate) fn read_pat<'a>(pat: &'a Pat, out: &mut Outline<'a>) -> Result<(), AllocError> {
+    match pat {
+        Pat::Variable(variable) => read_variable(variable, Naming::Bound, out),
+        Pat::Wildcard(item) => out.plain(item),
+        Pat::Literal(item) => out.plain(item),
+        Pat::Negative(minus, literal) => read_two(minus, literal, out),
+        Pat::Constructor(constructor) => read_constructor(constructor, Naming::Used, out),
+        Pat::As(variable, mark, part) => {
+            read_variable(variable, Naming::Bound, out)?;
+            out.plain(mark)?;
+            read_pat(part.get(), out)
+        }
+        Pat::Lazy(mark, part) => {
+            out.plain(mark)?;
+            read_pat(part.get(), out)
+        }
+        Pat::Apply(constructor, arguments) => {
+            read_constructor(constructor, Naming::Used, out)?;
+            read_pats(arguments.as_slice(), out)
+        }
+        Pat::Infix(operands) => read_operands(operands.as_slice(), out),
+        Pat::Tuple(left, parts, right) => read_listed(left, parts.as_slice(), right, out),
+        Pat::List(left, parts, right) => read_listed(left, parts.as_slice(), right, out),
+        Pat::Group(left, part, right) => {
+            out.plain(left)?;
+            read_pat(part.get(), out)?;
+            out.plain(right)
+        }
+        Pat::Fields(constructor, left, fields, right) => {
+            read_constructor(constructor, Naming::Used, out)?;
+            read_fields(left, fields.as_slice(), right, out)
         }
     }
+}
 
-    #[cycle(patterns)]
-    pub(crate) fn pats(
-        &mut self,
-        pats: &'a [Pat],
-        region: Option<usize>,
-    ) -> Result<(), AllocError> {
-        for pat in pats {
-            self.pat(pat, region)?;
-        }
-        Ok(())
+#[cycle(patterns)]
+pub(crate) fn read_pats<'a>(pats: &'a [Pat], out: &mut Outline<'a>) -> Result<(), AllocError> {
+    for pat in pats {
+        read_pat(pat, out)?;
     }
+    Ok(())
+}
 
-    #[cycle(patterns)]
-    fn listed_pats(
-        &mut self,
-        list: &'a [Listed<Pat>],
-        region: Option<usize>,
-    ) -> Result<(), AllocError> {
-        for listed in list {
-            self.pat(&listed.part, region)?;
-            self.maybe_plain(&listed.separator, region)?;
-        }
-        Ok(())
+#[cycle(patterns)]
+fn read_listed<'a>(
+    left: &'a Item,
+    parts: &'a [Listed<Pat>],
+    right: &'a Item,
+    out: &mut Outline<'a>,
+) -> Result<(), AllocError> {
+    out.plain(left)?;
+    for part in parts {
+        read_pat(&part.part, out)?;
+        read_maybe(&part.separator, out)?;
     }
+    out.plain(right)
+}
 
-    #[cycle(patterns)]
-    fn pat_operands(
-        &mut self,
-        operands: &'a [Operand<Pat>],
-        region: Option<usize>,
-    ) -> Result<(), AllocError> {
-        for operand in operands {
-            self.maybe_plain(&operand.minus, region)?;
-            self.pat(&operand.part, region)?;
-            self.maybe_operator(&operand.operator, region)?;
-        }
-        Ok(())
+#[cycle(patterns)]
+fn read_operands<'a>(
+    operands: &'a [Operand<Pat>],
+    out: &mut Outline<'a>,
+) -> Result<(), AllocError> {
+    for operand in operands {
+        read_maybe(&operand.minus, out)?;
+        read_pat(&operand.part, out)?;
+        read_maybe_operator(&operand.operator, out)?;
     }
+    Ok(())
+}
 
-    #[cycle(patterns)]
-    fn pat_fields(
-        &mut self,
-        fields: &'a [Listed<Field<Pat>>],
-        region: Option<usize>,
-    ) -> Result<(), AllocError> {
-        for listed in fields {
-            self.variable(&listed.part.name, Naming::As(Role::Plain), region)?;
-            self.plain(&listed.part.equals, region)?;
-            self.pat(&listed.part.part, region)?;
-            self.maybe_plain(&listed.separator, region)?;
-        }
-        Ok(())
+#[cycle(patterns)]
+fn read_fields<'a>(
+    left: &'a Item,
+    fields: &'a [Listed<Field<Pat>>],
+    right: &'a Item,
+    out: &mut Outline<'a>,
+) -> Result<(), AllocError> {
+    out.plain(left)?;
+    for field in fields {
+        read_variable(&field.part.name, Naming::Plain, out)?;
+        out.plain(&field.part.equals)?;
+        read_pat(&field.part.part, out)?;
+        read_maybe(&field.separator, out)?;
     }
+    out.plain(right)
 }

@@ -1,42 +1,93 @@
+ghost use Rattle.std.specs.Prelude.{◌≡◌, ◌-◌, length, slice_index_or};
+ghost use Rattle.hr_scope_rules.specs.Roles.{innermost_start, role_in, second_start};
+
 use hr_base::{Class, Space};
-use hr_scope_rules::Role;
+use hr_scope_rules::{Naming, Role};
 
-/// How the role of a name follows from the class of its lexeme.
-#[derive(Clone, Copy)]
-pub(crate) enum Naming {
-    /// The role itself, whatever the class.
-    As(Role),
-    /// The role where the lexeme is a name, and none for a reserved operator.
-    IfName(Role),
-    /// A name that is used.
-    Used,
-    /// An operator whose fixity is declared.
-    Fixed,
-    /// A constructor that a type's declaration gives.
-    Constructed,
-}
-
-/// The space that the class of a name has.
-pub(crate) fn space_of(class: Class) -> Option<Space> {
+/// Whether a name of the class is a variable's or a constructor's.
+fn space_of(class: Class) -> Option<Space> {
     match class {
-        Class::VarId | Class::QVarId | Class::VarSym | Class::QVarSym => Some(Space::Value),
-        Class::ConId | Class::QConId | Class::ConSym | Class::QConSym => Some(Space::Constructor),
-        _ => None,
+        Class::VarId => Some(Space::Value),
+        Class::QVarId => Some(Space::Value),
+        Class::VarSym => Some(Space::Value),
+        Class::QVarSym => Some(Space::Value),
+        Class::ConId => Some(Space::Constructor),
+        Class::QConId => Some(Space::Constructor),
+        Class::ConSym => Some(Space::Constructor),
+        Class::QConSym => Some(Space::Constructor),
+        Class::Integer => None,
+        Class::Float => None,
+        Class::Char => None,
+        Class::Str => None,
+        Class::ReservedId => None,
+        Class::ReservedOp => None,
+        Class::Special => None,
     }
 }
 
-pub(crate) fn named_role(naming: Naming, class: Class) -> Role {
-    if let Naming::As(role) = naming {
-        return role;
-    }
-    let Some(space) = space_of(class) else {
-        return Role::Plain;
-    };
+/// The role of a lexeme of the class that stands so.
+pub(crate) fn role_in(starts: &[usize], naming: Naming, class: Class) -> Role {
+    let space = space_of(class);
     match naming {
-        Naming::As(role) => role,
-        Naming::IfName(role) => role,
-        Naming::Used => Role::Uses(space),
-        Naming::Fixed => Role::Fixes(space),
-        Naming::Constructed => Role::Declares(space),
+        Naming::Plain => Role::Plain,
+        Naming::Used => match space {
+            Some(space) => Role::Uses(space),
+            None => Role::Plain,
+        },
+        Naming::Type => match space {
+            Some(_) => Role::Uses(Space::TypeName),
+            None => Role::Plain,
+        },
+        Naming::Bound => Role::Declares(Space::Value),
+        Naming::Defined(goes_on) => {
+            if goes_on {
+                Role::GoesOn
+            } else {
+                Role::Declares(Space::Value)
+            }
+        }
+        Naming::Signed => Role::Signs,
+        Naming::Fixed => match space {
+            Some(space) => Role::Fixes(space),
+            None => Role::Plain,
+        },
+        Naming::Constructed => match space {
+            Some(space) => Role::Declares(space),
+            None => Role::Plain,
+        },
+        Naming::Headed => Role::Declares(Space::TypeName),
+        Naming::Parameter => Role::Parameter,
+        Naming::Exported(space) => Role::Exported(space),
+        Naming::ExportedPart => match space {
+            Some(_) => Role::ExportedPart(innermost_start(starts)),
+            None => Role::Plain,
+        },
+        Naming::Imported => Role::Imported(innermost_start(starts), Space::Value),
+        Naming::ImportedType => Role::Imported(second_start(starts), Space::TypeName),
+        Naming::ImportedPart => match space {
+            Some(_) => Role::ImportedPart(second_start(starts), innermost_start(starts)),
+            None => Role::Plain,
+        },
+        Naming::Hidden => match space {
+            Some(_) => Role::Hidden(innermost_start(starts)),
+            None => Role::Plain,
+        },
+    }
+}
+
+/// The lexeme with which the innermost construct begins, or 0.
+pub(crate) fn innermost_start(starts: &[usize]) -> usize {
+    match starts {
+        [] => 0,
+        [.., last] => *last,
+    }
+}
+
+/// The lexeme with which the construct round it begins, or 0.
+fn second_start(starts: &[usize]) -> usize {
+    match starts {
+        [] => 0,
+        [only] => *only,
+        [.., second, _] => *second,
     }
 }

@@ -37,7 +37,7 @@ pub fn own_entities(
 }
 
 /// The constructors by their types. A constructor is of the type that is declared last before it.
-pub fn parts(alloc: Global, outline: &Outline<'_>) -> Result<Parts, AllocError> {
+pub fn type_parts(alloc: Global, outline: &Outline<'_>) -> Result<Parts, AllocError> {
     let mut parts = IndexMap::new(alloc);
     let mut ty = Text::from_slice(alloc, b"")?;
     for mark in outline.marks.iter() {

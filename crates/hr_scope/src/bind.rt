@@ -1,6 +1,6 @@
 use crate::double::first_double;
 use crate::lists::{exported_part, hidden, imported, imported_part, standing};
-use crate::locals::Locals;
+use crate::locals::{Locals, region_name};
 use crate::project::{Project, Unit};
 use crate::{Found, ScopeError};
 use hr_base::{Binder, Entity, Name, Seq, Space, Spot, Text};
@@ -172,7 +172,10 @@ impl Scene<'_, '_> {
         };
         match mark.region {
             Some(_) if space != Space::Value => Ok(Found::Nothing),
-            Some(region) => Ok(self.local(self.locals.in_region(region, *spelling))),
+            Some(region) => match region_name(&self.unit.outline, region) {
+                Some(name) => Ok(self.local(self.locals.in_region(name, *spelling))),
+                None => Ok(Found::Nothing),
+            },
             None if self.locals.at_top(space, *spelling) => {
                 Ok(Found::One(Binder::Global(Entity {
                     module: self.unit.name.clone()?,

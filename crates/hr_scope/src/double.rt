@@ -1,4 +1,4 @@
-use crate::locals::Locals;
+use crate::locals::{Locals, Named, region_name};
 use hr_base::Space;
 use hr_outline::Outline;
 use hr_scope_rules::Role;
@@ -30,7 +30,7 @@ pub(crate) fn first_double(
     outline: &Outline<'_>,
     locals: &Locals,
 ) -> Result<Option<(usize, usize)>, AllocError> {
-    let mut seen: IndexMap<(Once, Option<usize>, usize), usize> = IndexMap::new(alloc);
+    let mut seen: IndexMap<(Once, Option<Named>, usize), usize> = IndexMap::new(alloc);
     for (number, (mark, spelling)) in outline
         .marks
         .iter()
@@ -38,7 +38,8 @@ pub(crate) fn first_double(
         .enumerate()
     {
         if let Some(once) = counted(mark.role) {
-            let key = (once, mark.region, *spelling);
+            let region = mark.region.and_then(|number| region_name(outline, number));
+            let key = (once, region, *spelling);
             if let Some(first) = seen.get(&key) {
                 return Ok(Some((*first, number)));
             }

@@ -4,13 +4,22 @@ use hr_scope_rules::Role;
 use indexmap::{IndexMap, IndexSet};
 use std::alloc::{AllocError, Global};
 
+/// A region by the lexeme with which its construct begins, and its number in the construct.
+pub(crate) type Named = (usize, usize);
+
+/// The name of the region of that number.
+pub(crate) fn region_name(outline: &Outline<'_>, number: usize) -> Option<Named> {
+    let entered = outline.regions.get(number)?;
+    Some((entered.at, entered.index))
+}
+
 /// What the regions and the top level of a module declare. Spellings are numbered.
 #[derive(Drop)]
 pub(crate) struct Locals {
     /// The number of each lexeme's spelling.
     pub(crate) spellings: Vec<usize>,
     /// The lexemes that declare a variable, by the region and the spelling.
-    declared: IndexMap<(usize, usize), Vec<usize>>,
+    declared: IndexMap<(Named, usize), Vec<usize>>,
     top: IndexSet<(Space, usize)>,
 }
 
@@ -27,7 +36,11 @@ impl Locals {
             locals.spellings.push(spelling)?;
             if let Role::Declares(space) = mark.role {
                 match mark.region {
-                    Some(region) => locals.declare(alloc, region, spelling, number)?,
+                    Some(region) => {
+                        if let Some(name) = region_name(outline, region) {
+                            locals.declare(alloc, name, spelling, number)?;
+                        }
+                    }
                     None => {
                         locals.top.insert((space, spelling))?;
                     }
@@ -40,7 +53,7 @@ impl Locals {
     fn declare(
         &mut self,
         alloc: Global,
-        region: usize,
+        region: Named,
         spelling: usize,
         number: usize,
     ) -> Result<(), AllocError> {
@@ -54,7 +67,7 @@ impl Locals {
     }
 
     /// The lexemes that declare the spelling in the region.
-    pub(crate) fn in_region(&self, region: usize, spelling: usize) -> &[usize] {
+    pub(crate) fn in_region(&self, region: Named, spelling: usize) -> &[usize] {
         match self.declared.get(&(region, spelling)) {
             Some(numbers) => numbers.as_slice(),
             None => &[],
@@ -70,17 +83,14 @@ impl Locals {
     ) -> &[usize] {
         let mut region = region;
         for _ in 0..=outline.regions.len() {
-            let Some(number) = region else {
+            let Some(entered) = region.and_then(|number| outline.regions.get(number)) else {
                 return &[];
             };
-            let declared = self.in_region(number, spelling);
+            let declared = self.in_region((entered.at, entered.index), spelling);
             if !declared.is_empty() {
                 return declared;
             }
-            region = match outline.regions.get(number) {
-                Some(opened) => opened.outer,
-                None => None,
-            };
+            region = entered.outer;
         }
         &[]
     }

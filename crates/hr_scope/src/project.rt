@@ -1,5 +1,5 @@
 use hr_base::{Entity, Seq, Space, Text};
-use hr_outline::{Names, Outline, Parts, module_name, outline, parts};
+use hr_outline::{Names, Outline, Parts, module_name, outline_of, type_parts};
 use hr_tables::{Interfaces, Seen};
 use hr_tree::Module;
 use indexmap::{IndexMap, IndexSet};
@@ -35,9 +35,9 @@ impl<'a> Project<'a> {
         for (number, tree) in modules.iter().enumerate() {
             let name = module_name(alloc, tree)?;
             project.numbers.insert(name.clone()?, number)?;
-            let outline = outline(alloc, tree)?;
+            let outline = outline_of(alloc, tree)?;
             project.list.push(Unit {
-                parts: parts(alloc, &outline)?,
+                parts: type_parts(alloc, &outline)?,
                 name,
                 outline,
                 scope: Names::new(alloc),

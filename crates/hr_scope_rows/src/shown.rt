@@ -1,6 +1,6 @@
 use hr_base::{Binder, Entity, Place, Text};
 use hr_exports::ExportError;
-use hr_outline::outline;
+use hr_outline::outline_of;
 use hr_scope::ScopeError;
 use hr_tables::Bindings;
 use hr_tree::Module;
@@ -119,7 +119,7 @@ pub fn bindings(
     let (Some(tree), Some(entries)) = (modules.last(), found.modules.as_slice().last()) else {
         return Ok(());
     };
-    let outline = outline(alloc, tree)?;
+    let outline = outline_of(alloc, tree)?;
     for (mark, entry) in outline.marks.iter().zip(entries.as_slice().iter()) {
         if let Some(binder) = entry {
             add(said, " ")?;

@@ -25,14 +25,14 @@ pub data InScopeOver (modules : List Module) (Exported : Family) (number : ℕ) 
   -- a module's own definitions are in scope as `e` and as `M.e` (section 5.5.1)
   own : (tree : Module) (entity : Entity) → slice_get modules number ≡ Some tree → Contains (own_entities tree) entity → InScopeOver modules Exported number None entity
   own_qualified : (tree : Module) (entity : Entity) → slice_get modules number ≡ Some tree → Contains (own_entities tree) entity
-    → InScopeOver modules Exported number (Some (module_name tree)) entity
+      → InScopeOver modules Exported number (Some (module_name tree)) entity
   -- an import brings `e`, unless it is qualified, and `Q.e` (section 5.3.2)
   imported : (tree : Module) (access : Access) (origin : ℕ) (from : Module) (entity : Entity)
-    → slice_get modules number ≡ Some tree → Contains (accesses tree) access → slice_get modules origin ≡ Some from → module_name from ≡ access.origin
-    → Brings (Exported origin) (IsPart modules) access entity → access.qualified ≡ false → InScopeOver modules Exported number None entity
+      → slice_get modules number ≡ Some tree → Contains (accesses tree) access → slice_get modules origin ≡ Some from → module_name from ≡ access.origin
+      → Brings (Exported origin) (IsPart modules) access entity → access.qualified ≡ false → InScopeOver modules Exported number None entity
   imported_qualified : (tree : Module) (access : Access) (origin : ℕ) (from : Module) (entity : Entity)
-    → slice_get modules number ≡ Some tree → Contains (accesses tree) access → slice_get modules origin ≡ Some from → module_name from ≡ access.origin
-    → Brings (Exported origin) (IsPart modules) access entity → InScopeOver modules Exported number (Some access.qualifier) entity
+      → slice_get modules number ≡ Some tree → Contains (accesses tree) access → slice_get modules origin ≡ Some from → module_name from ≡ access.origin
+      → Brings (Exported origin) (IsPart modules) access entity → InScopeOver modules Exported number (Some access.qualifier) entity
 
 -- the scope of a module
 abbrev pub Scope : Type 1
@@ -52,7 +52,7 @@ ItemExports modules Scoped (Export.Variable variable) entity = StandsFor Scoped 
 ItemExports modules Scoped (Export.Type name members) entity =
     StandsFor Scoped Space.TypeName (name_of name.lexeme) entity
     ⊎ ((ty : Entity) × StandsFor Scoped Space.TypeName (name_of name.lexeme) ty × IsPart modules ty entity × Selects members entity.text
-      × ((qualifier : Option (List ℕ)) × Scoped qualifier entity))
+    × ((qualifier : Option (List ℕ)) × Scoped qualifier entity))
 ItemExports modules Scoped (Export.«Module» word name) entity = Scoped None entity × Scoped (Some name.lexeme.text) entity
 
 -- without a header `main` is exported; without a list all local definitions are

@@ -59,11 +59,12 @@ whole_prelude = record { origin = prelude; qualifier = prelude; qualified = fals
 -- Prelude is imported whole where no import names it; Prelude itself has no such import (section 5.6.1)
 abbrev pub accesses : Module → List Access
 accesses tree = by (bytes_eq (module_name tree) prelude) (list_any (λ access. bytes_eq access.origin prelude) written) where
-    written : List Access
-    written = written_accesses tree
-    by : Bool → Bool → List Access
-    by false false = whole_prelude ∷ written
-    by _ _ = written
+  written : List Access
+  written = written_accesses tree
+
+  by : Bool → Bool → List Access
+  by false false = whole_prelude ∷ written
+  by _ _ = written
 
 -- which constructors are named with a type
 abbrev pub member_texts : List (Listed Constructor) → List (List ℕ)

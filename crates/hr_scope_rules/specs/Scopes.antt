@@ -16,7 +16,7 @@ use Rattle.hr_tree.specs.declared.modules.Imported.{Imported}
 use Rattle.hr_tree.specs.declared.modules.Header.{Header}
 use Rattle.hr_tree.specs.declared.modules.Module.{Module}
 use Rattle.hr_scope_rules.specs.Names.{name_of, plain_name}
-use Rattle.hr_scope_rules.specs.Outline.{outline}
+use Rattle.hr_scope_rules.specs.Regions.{lexemes}
 use Rattle.hr_scope_rules.specs.Phrases.{variable_text}
 use Rattle.hr_scope_rules.specs.Modules.{module_name, own_entities, entity_of, constructed}
 use Rattle.hr_scope_rules.specs.Imports.{Access, accesses, member_texts, parts_of}
@@ -41,7 +41,7 @@ same_qualifier _ _ = false
 
 -- the parts of the types of all modules, each with its type
 abbrev pub module_parts : Module → List (Entity × Entity)
-module_parts tree = map (λ pair. (entity_of (module_name tree) Space.TypeName pair.0, entity_of (module_name tree) Space.Constructor pair.1)) (constructed [] (outline tree))
+module_parts tree = map (λ pair. (entity_of (module_name tree) Space.TypeName pair.0, entity_of (module_name tree) Space.Constructor pair.1)) (constructed [] (lexemes tree))
 
 abbrev pub all_parts : List Module → List (Entity × Entity)
 all_parts modules = flat_map module_parts modules
@@ -118,10 +118,11 @@ in_scope_as scope qualifier entity = list_any (λ one. same_qualifier one.0 qual
 abbrev pub item_exports : List (Entity × Entity) → List Scoped → Export → List Entity
 item_exports parts scope (Export.Variable variable) = standing scope Space.Value (name_of (lexeme_of variable).lexeme)
 item_exports parts scope (Export.Type name members) = types ++ flat_map members_of types where
-    types : List Entity
-    types = standing scope Space.TypeName (name_of name.lexeme)
-    members_of : Entity → List Entity
-    members_of ty = map (λ one. one.1) (filter (λ one. is_part parts ty one.1 && selects members one.1.text) scope)
+  types : List Entity
+  types = standing scope Space.TypeName (name_of name.lexeme)
+
+  members_of : Entity → List Entity
+  members_of ty = map (λ one. one.1) (filter (λ one. is_part parts ty one.1 && selects members one.1.text) scope)
 item_exports parts scope (Export.«Module» word name) =
     filter (in_scope_as scope (Some name.lexeme.text)) (map (λ one. one.1) (filter (λ one. same_qualifier one.0 None) scope))
 
