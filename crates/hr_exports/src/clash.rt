@@ -1,7 +1,7 @@
 //! Whether exports clash.
 use crate::ExportError;
 use crate::chosen::exported;
-use crate::tables::export_list;
+use crate::settling::export_list;
 use crate::unit::{Unit, Units};
 use hr_base::{Entity, Space, Text};
 use hr_outline::{Key, key_of};

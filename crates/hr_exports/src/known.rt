@@ -1,7 +1,7 @@
 //! Whether what lists name is there.
 use crate::ExportError;
 use crate::chosen::{constructor_item, lexeme_of, standing};
-use crate::tables::export_list;
+use crate::settling::export_list;
 use crate::unit::{Unit, Units, constructor_of};
 use hr_base::{Entity, Item, Space, Text};
 use hr_outline::{Names, key_of, place_of};

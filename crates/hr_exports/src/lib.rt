@@ -4,15 +4,15 @@
 mod access;
 mod chosen;
 mod clash;
-mod close;
+mod closing;
 mod error;
 mod known;
-mod tables;
+mod settling;
 mod unit;
 
-pub use close::close;
+pub use closing::close;
 pub use error::ExportError;
-pub use tables::tables;
+pub use settling::tables;
 
 #[cfg(test)]
 mod tests;

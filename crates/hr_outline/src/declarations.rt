@@ -13,10 +13,10 @@ use hr_tree::{
 };
 use std::alloc::AllocError;
 
-/// The variable that an equation with patterns defines, if the piece is one.
-fn defined(piece: &Piece<Decl>) -> Option<&Text> {
-    match piece {
-        Piece::Part(Decl::Equation(left, _, _)) => Some(head_text(&left.head)),
+/// The variable that an equation with patterns defines, if the declaration is one.
+fn defined(decl: &Decl) -> Option<&Text> {
+    match decl {
+        Decl::Equation(left, _, _) => Some(head_text(&left.head)),
         _ => None,
     }
 }
@@ -30,9 +30,9 @@ fn head_text(head: &LeftHead) -> &Text {
     }
 }
 
-/// Whether the piece is an equation that goes on the one before it.
-pub(crate) fn goes_on(before: Option<&Text>, piece: &Piece<Decl>) -> bool {
-    match (before, defined(piece)) {
+/// Whether the declaration is an equation that goes on the one before it.
+pub(crate) fn goes_on(before: Option<&Text>, decl: &Decl) -> bool {
+    match (before, defined(decl)) {
         (Some(before), Some(now)) => before.is(now.as_slice()),
         _ => false,
     }
@@ -42,7 +42,7 @@ pub(crate) fn goes_on(before: Option<&Text>, piece: &Piece<Decl>) -> bool {
 pub(crate) fn passed<'b>(before: Option<&'b Text>, piece: &'b Piece<Decl>) -> Option<&'b Text> {
     match piece {
         Piece::Semicolon(_) => before,
-        Piece::Part(_) => defined(piece),
+        Piece::Part(decl) => defined(decl),
     }
 }
 

@@ -245,26 +245,21 @@ fn read_block<'a>(block: &'a Block<Decl>, out: &mut Outline<'a>) -> Result<(), A
     read_opening(&block.layout, out)?;
     let mut before = None;
     for piece in block.pieces.as_slice() {
-        read_piece(piece, goes_on(before, piece), out)?;
+        match piece {
+            Piece::Semicolon(item) => out.plain(item)?,
+            Piece::Part(decl) => read_decl(decl, goes_on(before, decl), out)?,
+        }
         before = passed(before, piece);
     }
     read_closing(&block.layout, out)
 }
 
 #[cycle(expressions)]
-pub(crate) fn read_piece<'a>(
-    piece: &'a Piece<Decl>,
+pub(crate) fn read_decl<'a>(
+    decl: &'a Decl,
     goes_on: bool,
     out: &mut Outline<'a>,
 ) -> Result<(), AllocError> {
-    match piece {
-        Piece::Semicolon(item) => out.plain(item),
-        Piece::Part(decl) => read_decl(decl, goes_on, out),
-    }
-}
-
-#[cycle(expressions)]
-fn read_decl<'a>(decl: &'a Decl, goes_on: bool, out: &mut Outline<'a>) -> Result<(), AllocError> {
     match decl {
         Decl::Import(import) => read_import(import, out),
         Decl::Synonym(word, head, equals, ty) => {
@@ -321,7 +316,10 @@ fn read_where<'a>(
             read_opening(&locals.block.layout, out)?;
             let mut before = None;
             for piece in locals.block.pieces.as_slice() {
-                read_piece(piece, goes_on(before, piece), out)?;
+                match piece {
+                    Piece::Semicolon(item) => out.plain(item)?,
+                    Piece::Part(decl) => read_decl(decl, goes_on(before, decl), out)?,
+                }
                 before = passed(before, piece);
             }
             read_closing(&locals.block.layout, out)?;

@@ -1,8 +1,8 @@
 use crate::Outline;
 use crate::declarations::{goes_on, passed};
-use crate::expressions::read_piece;
+use crate::expressions::read_decl;
 use crate::lists::{read_closing, read_header, read_opening};
-use hr_tree::Module;
+use hr_tree::{Module, Piece};
 use std::alloc::{AllocError, Global};
 
 /// The lexemes of the module with their roles, and the regions that are entered.
@@ -12,7 +12,10 @@ pub fn outline_of(alloc: Global, tree: &Module) -> Result<Outline<'_>, AllocErro
     read_opening(&tree.body.layout, &mut outline)?;
     let mut before = None;
     for piece in tree.body.pieces.as_slice() {
-        read_piece(piece, goes_on(before, piece), &mut outline)?;
+        match piece {
+            Piece::Semicolon(item) => outline.plain(item)?,
+            Piece::Part(decl) => read_decl(decl, goes_on(before, decl), &mut outline)?,
+        }
         before = passed(before, piece);
     }
     read_closing(&tree.body.layout, &mut outline)?;

@@ -1,7 +1,7 @@
 //! What each name of a project is bound to.
 #![tactic(auto)]
 
-mod bind;
+mod binding;
 mod double;
 mod error;
 mod found;
@@ -9,7 +9,7 @@ mod lists;
 mod locals;
 mod project;
 
-pub use bind::{bind, look_up};
+pub use binding::{bind, look_up};
 pub use error::ScopeError;
 pub use found::Found;
 

@@ -1,7 +1,7 @@
 use crate::ExportError;
 use crate::clash::exports_apart;
 use crate::known::{exports_known, imports_exported};
-use crate::tables::{interfaces, settle};
+use crate::settling::{interfaces, settle};
 use crate::unit::Units;
 use hr_tables::Interfaces;
 use hr_tree::Module;
