@@ -1,3 +1,7 @@
+ghost use Rattle.std.specs.Prelude.{◌≡◌, OnOk};
+ghost use Rattle.hr_scope_rules.specs.Events.{after, Event, nothing_read, plain};
+ghost use Rattle.hr_outline.specs.Seen.{seen};
+
 use crate::roles::{innermost_start, role_in};
 use hr_base::Item;
 use hr_scope_rules::{Naming, Role};
@@ -30,7 +34,10 @@ pub struct Entered {
 }
 
 impl<'a> Outline<'a> {
-    pub(crate) fn new(alloc: Global) -> Outline<'a> {
+    #[tactic(auto, unfolding(crate::specs::Seen::seen))]
+    pub(crate) fn new(alloc: Global) -> Outline<'a>
+        ensures { seen result ≡ nothing_read }
+    {
         Outline {
             marks: Vec::new(alloc),
             regions: Vec::new(alloc),
@@ -40,7 +47,10 @@ impl<'a> Outline<'a> {
     }
 
     /// Reads a lexeme.
-    pub(crate) fn put(&mut self, item: &'a Item, naming: Naming) -> Result<(), AllocError> {
+    #[tactic(auto, unfolding(crate::specs::Seen::seen))]
+    pub(crate) fn put(&mut self, item: &'a Item, naming: Naming) -> Result<(), AllocError>
+        ensures { OnOk result (seen self.new ≡ after (seen self.old) (Event.Lexeme naming item.now)) }
+    {
         let role = role_in(self.starts.as_slice(), naming, item.lexeme.class);
         self.marks.push(Mark {
             item,
@@ -51,18 +61,26 @@ impl<'a> Outline<'a> {
     }
 
     /// Reads a lexeme that is no name.
-    pub(crate) fn plain(&mut self, item: &'a Item) -> Result<(), AllocError> {
+    pub(crate) fn plain(&mut self, item: &'a Item) -> Result<(), AllocError>
+        ensures { OnOk result (seen self.new ≡ after (seen self.old) (plain item.now)) }
+    {
         self.put(item, Naming::Plain)
     }
 
     /// A construct begins with the next lexeme.
-    pub(crate) fn begin(&mut self) -> Result<(), AllocError> {
+    #[tactic(auto, unfolding(crate::specs::Seen::seen))]
+    pub(crate) fn begin(&mut self) -> Result<(), AllocError>
+        ensures { OnOk result (seen self.new ≡ after (seen self.old) Event.Begin) }
+    {
         self.starts.push(self.marks.len())?;
         Ok(())
     }
 
     /// Enters the region of that number of the innermost construct.
-    pub(crate) fn enter(&mut self, index: usize) -> Result<(), AllocError> {
+    #[tactic(auto, unfolding(crate::specs::Seen::seen))]
+    pub(crate) fn enter(&mut self, index: usize) -> Result<(), AllocError>
+        ensures { OnOk result (seen self.new ≡ after (seen self.old) (Event.Enter index)) }
+    {
         let number = self.regions.len();
         self.regions.push(Entered {
             at: innermost_start(self.starts.as_slice()),
@@ -73,7 +91,10 @@ impl<'a> Outline<'a> {
         Ok(())
     }
 
-    pub(crate) fn leave(&mut self) {
+    #[tactic(auto, unfolding(crate::specs::Seen::seen))]
+    pub(crate) fn leave(&mut self)
+        ensures { seen self.new ≡ after (seen self.old) Event.Leave }
+    {
         self.current = match self.current {
             None => None,
             Some(number) => match self.regions.get(number) {
@@ -83,12 +104,17 @@ impl<'a> Outline<'a> {
         };
     }
 
-    pub(crate) fn end(&mut self) {
+    #[tactic(auto, unfolding(crate::specs::Seen::seen))]
+    pub(crate) fn end(&mut self)
+        ensures { seen self.new ≡ after (seen self.old) Event.End }
+    {
         self.starts.pop();
     }
 
     /// Leaves the region and ends the construct.
-    pub(crate) fn close(&mut self) {
+    pub(crate) fn close(&mut self)
+        ensures { seen self.new ≡ after (after (seen self.old) Event.Leave) Event.End }
+    {
         self.leave();
         self.end();
     }

@@ -1,11 +1,13 @@
-ghost use Rattle.std.specs.Prelude.{◌≡◌, ◌-◌, length, slice_index_or};
-ghost use Rattle.hr_scope_rules.specs.Roles.{innermost_start, role_in, second_start};
+ghost use Rattle.std.specs.Prelude.{◌≡◌};
+ghost use Rattle.hr_scope_rules.specs.Roles.{innermost_start, role_in, second_start, space_of};
 
 use hr_base::{Class, Space};
 use hr_scope_rules::{Naming, Role};
 
 /// Whether a name of the class is a variable's or a constructor's.
-fn space_of(class: Class) -> Option<Space> {
+fn space_of(class: Class) -> Option<Space>
+    ensures { result ≡ space_of class }
+{
     match class {
         Class::VarId => Some(Space::Value),
         Class::QVarId => Some(Space::Value),
@@ -26,7 +28,9 @@ fn space_of(class: Class) -> Option<Space> {
 }
 
 /// The role of a lexeme of the class that stands so.
-pub(crate) fn role_in(starts: &[usize], naming: Naming, class: Class) -> Role {
+pub(crate) fn role_in(starts: &[usize], naming: Naming, class: Class) -> Role
+    ensures { result ≡ role_in starts.now naming class }
+{
     let space = space_of(class);
     match naming {
         Naming::Plain => Role::Plain,
@@ -76,18 +80,21 @@ pub(crate) fn role_in(starts: &[usize], naming: Naming, class: Class) -> Role {
 }
 
 /// The lexeme with which the innermost construct begins, or 0.
-pub(crate) fn innermost_start(starts: &[usize]) -> usize {
-    match starts {
-        [] => 0,
-        [.., last] => *last,
+pub(crate) fn innermost_start(starts: &[usize]) -> usize
+    ensures { result ≡ innermost_start starts.now }
+{
+    match starts.last() {
+        Some(last) => *last,
+        None => 0,
     }
 }
 
 /// The lexeme with which the construct round it begins, or 0.
-fn second_start(starts: &[usize]) -> usize {
-    match starts {
-        [] => 0,
-        [only] => *only,
-        [.., second, _] => *second,
+fn second_start(starts: &[usize]) -> usize
+    ensures { result ≡ second_start starts.now }
+{
+    match starts.get(starts.len().saturating_sub(2)) {
+        Some(second) => *second,
+        None => 0,
     }
 }

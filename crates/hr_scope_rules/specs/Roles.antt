@@ -1,22 +1,30 @@
 -- The role of a lexeme, by how it stands, by its class, and by the constructs that are open round it: the numbers of
 -- the lexemes with which these begin, the innermost one last.
-use Rattle.std.specs.Prelude.{ℕ, ◌-◌, if◌then◌else◌, List, length, slice_index_or}
+use Rattle.std.specs.Prelude.{ℕ, ◌-◌, if◌then◌else◌, List, length, Option, Some, None, slice_index_or}
 use Rattle.hr_base.specs.declared.bind.Space.{Space}
 use Rattle.hr_base.specs.declared.lexeme.Class.{Class}
 use Rattle.hr_scope_rules.specs.declared.role.Role.{Role}
 use Rattle.hr_scope_rules.specs.declared.naming.Naming.{Naming}
 
--- given the role of a variable and that of a constructor; a reserved operator, as `:` or `->`, is no name
+-- the space of a variable or a constructor; a reserved operator, as `:` or `->`, is no name
+abbrev pub space_of : Class → Option Space
+space_of Class.VarId = Some Space.Value
+space_of Class.QVarId = Some Space.Value
+space_of Class.VarSym = Some Space.Value
+space_of Class.QVarSym = Some Space.Value
+space_of Class.ConId = Some Space.Constructor
+space_of Class.QConId = Some Space.Constructor
+space_of Class.ConSym = Some Space.Constructor
+space_of Class.QConSym = Some Space.Constructor
+space_of _ = None
+
+-- the role of a name, given that of each space
+abbrev pub role_of_name : (Space → Role) → Option Space → Role
+role_of_name role None = Role.Plain
+role_of_name role (Some space) = role space
+
 abbrev pub role_by : (Space → Role) → Class → Role
-role_by role Class.VarId = role Space.Value
-role_by role Class.QVarId = role Space.Value
-role_by role Class.VarSym = role Space.Value
-role_by role Class.QVarSym = role Space.Value
-role_by role Class.ConId = role Space.Constructor
-role_by role Class.QConId = role Space.Constructor
-role_by role Class.ConSym = role Space.Constructor
-role_by role Class.QConSym = role Space.Constructor
-role_by role _ = Role.Plain
+role_by role class = role_of_name role (space_of class)
 
 abbrev pub innermost_start : List ℕ → ℕ
 innermost_start starts = slice_index_or starts (length starts - 1) 0
