@@ -1,3 +1,12 @@
+ghost use Rattle.std.specs.Prelude.{◌≡◌, OnOk, fold};
+ghost use Rattle.std.specs.List.{flat_map};
+ghost use Rattle.hr_tree.specs.Lists.{closing_items, opening_items};
+ghost use Rattle.hr_tree.specs.Yields.{maybe_alias};
+ghost use Rattle.hr_scope_rules.specs.Events.{after, bare};
+ghost use Rattle.hr_scope_rules.specs.Phrases.{listed_events};
+ghost use Rattle.hr_scope_rules.specs.Lists.{export_events, exports_events, header_events, hidden_events, import_events, import_names_events, imported_events, listing_events, members_events};
+ghost use Rattle.hr_outline.specs.Seen.{seen};
+
 use crate::Outline;
 use crate::names::{read_constructors, read_maybe, read_two, read_variable};
 use hr_base::{Item, Space};
@@ -7,20 +16,18 @@ use hr_tree::{
 };
 use std::alloc::AllocError;
 
-pub(crate) fn read_opening<'a>(
-    layout: &'a Layout,
-    out: &mut Outline<'a>,
-) -> Result<(), AllocError> {
+pub(crate) fn read_opening<'a>(layout: &'a Layout, out: &mut Outline<'a>) -> Result<(), AllocError>
+    ensures { OnOk result (seen out.new ≡ fold after (seen out.old) (bare (opening_items layout.now))) }
+{
     match layout {
         Layout::Implicit { .. } => Ok(()),
         Layout::Explicit(left, _) => out.plain(left),
     }
 }
 
-pub(crate) fn read_closing<'a>(
-    layout: &'a Layout,
-    out: &mut Outline<'a>,
-) -> Result<(), AllocError> {
+pub(crate) fn read_closing<'a>(layout: &'a Layout, out: &mut Outline<'a>) -> Result<(), AllocError>
+    ensures { OnOk result (seen out.new ≡ fold after (seen out.old) (bare (closing_items layout.now))) }
+{
     match layout {
         Layout::Implicit { .. } => Ok(()),
         Layout::Explicit(_, right) => out.plain(right),
@@ -30,7 +37,9 @@ pub(crate) fn read_closing<'a>(
 pub(crate) fn read_header<'a>(
     header: &'a Option<Header>,
     out: &mut Outline<'a>,
-) -> Result<(), AllocError> {
+) -> Result<(), AllocError>
+    ensures { OnOk result (seen out.new ≡ fold after (seen out.old) (header_events header.now)) }
+{
     match header {
         Some(header) => {
             read_two(&header.word, &header.name, out)?;
@@ -44,7 +53,9 @@ pub(crate) fn read_header<'a>(
 fn read_exports<'a>(
     exports: &'a Option<NameList<Export>>,
     out: &mut Outline<'a>,
-) -> Result<(), AllocError> {
+) -> Result<(), AllocError>
+    ensures { OnOk result (seen out.new ≡ fold after (seen out.old) (exports_events exports.now)) }
+{
     match exports {
         Some(names) => {
             out.plain(&names.left)?;
@@ -59,7 +70,9 @@ fn read_exports<'a>(
 fn read_export_items<'a>(
     list: &'a [Listed<Export>],
     out: &mut Outline<'a>,
-) -> Result<(), AllocError> {
+) -> Result<(), AllocError>
+    ensures { OnOk result (seen out.new ≡ fold after (seen out.old) (flat_map (listed_events export_events) list.now)) }
+{
     for listed in list {
         read_export(&listed.part, out)?;
         read_maybe(&listed.separator, out)?;
@@ -67,7 +80,9 @@ fn read_export_items<'a>(
     Ok(())
 }
 
-fn read_export<'a>(export: &'a Export, out: &mut Outline<'a>) -> Result<(), AllocError> {
+fn read_export<'a>(export: &'a Export, out: &mut Outline<'a>) -> Result<(), AllocError>
+    ensures { OnOk result (seen out.new ≡ fold after (seen out.old) (export_events export.now)) }
+{
     match export {
         Export::Variable(variable) => {
             read_variable(variable, Naming::Exported(Space::Value), out)
@@ -87,7 +102,9 @@ fn read_members<'a>(
     members: &'a Option<Members>,
     naming: Naming,
     out: &mut Outline<'a>,
-) -> Result<(), AllocError> {
+) -> Result<(), AllocError>
+    ensures { OnOk result (seen out.new ≡ fold after (seen out.old) (members_events naming members.now)) }
+{
     match members {
         None => Ok(()),
         Some(Members::All(left, dots, right)) => {
@@ -102,7 +119,9 @@ fn read_members<'a>(
     }
 }
 
-pub(crate) fn read_import<'a>(import: &'a Import, out: &mut Outline<'a>) -> Result<(), AllocError> {
+pub(crate) fn read_import<'a>(import: &'a Import, out: &mut Outline<'a>) -> Result<(), AllocError>
+    ensures { OnOk result (seen out.new ≡ fold after (seen out.old) (import_events import.now)) }
+{
     out.plain(&import.word)?;
     read_maybe(&import.qualified, out)?;
     out.begin()?;
@@ -113,7 +132,9 @@ pub(crate) fn read_import<'a>(import: &'a Import, out: &mut Outline<'a>) -> Resu
     Ok(())
 }
 
-fn read_alias<'a>(alias: &'a Option<Alias>, out: &mut Outline<'a>) -> Result<(), AllocError> {
+fn read_alias<'a>(alias: &'a Option<Alias>, out: &mut Outline<'a>) -> Result<(), AllocError>
+    ensures { OnOk result (seen out.new ≡ fold after (seen out.old) (bare (maybe_alias alias.now))) }
+{
     match alias {
         Some(alias) => read_two(&alias.word, &alias.name, out),
         None => Ok(()),
@@ -123,7 +144,9 @@ fn read_alias<'a>(alias: &'a Option<Alias>, out: &mut Outline<'a>) -> Result<(),
 fn read_import_names<'a>(
     names: &'a Option<ImportNames>,
     out: &mut Outline<'a>,
-) -> Result<(), AllocError> {
+) -> Result<(), AllocError>
+    ensures { OnOk result (seen out.new ≡ fold after (seen out.old) (import_names_events names.now)) }
+{
     match names {
         None => Ok(()),
         Some(names) => read_listing(&names.hiding, &names.list, out),
@@ -134,7 +157,9 @@ fn read_listing<'a>(
     hiding: &'a Option<Item>,
     names: &'a NameList<Imported>,
     out: &mut Outline<'a>,
-) -> Result<(), AllocError> {
+) -> Result<(), AllocError>
+    ensures { OnOk result (seen out.new ≡ fold after (seen out.old) (listing_events hiding.now names.now)) }
+{
     match hiding {
         None => {
             out.plain(&names.left)?;
@@ -152,7 +177,9 @@ fn read_listing<'a>(
 fn read_imported_items<'a>(
     list: &'a [Listed<Imported>],
     out: &mut Outline<'a>,
-) -> Result<(), AllocError> {
+) -> Result<(), AllocError>
+    ensures { OnOk result (seen out.new ≡ fold after (seen out.old) (flat_map (listed_events imported_events) list.now)) }
+{
     for listed in list {
         read_imported(&listed.part, out)?;
         read_maybe(&listed.separator, out)?;
@@ -163,7 +190,9 @@ fn read_imported_items<'a>(
 fn read_hidden_items<'a>(
     list: &'a [Listed<Imported>],
     out: &mut Outline<'a>,
-) -> Result<(), AllocError> {
+) -> Result<(), AllocError>
+    ensures { OnOk result (seen out.new ≡ fold after (seen out.old) (flat_map (listed_events hidden_events) list.now)) }
+{
     for listed in list {
         read_hidden(&listed.part, out)?;
         read_maybe(&listed.separator, out)?;
@@ -171,7 +200,9 @@ fn read_hidden_items<'a>(
     Ok(())
 }
 
-fn read_imported<'a>(imported: &'a Imported, out: &mut Outline<'a>) -> Result<(), AllocError> {
+fn read_imported<'a>(imported: &'a Imported, out: &mut Outline<'a>) -> Result<(), AllocError>
+    ensures { OnOk result (seen out.new ≡ fold after (seen out.old) (imported_events imported.now)) }
+{
     match imported {
         Imported::Variable(variable) => read_variable(variable, Naming::Imported, out),
         Imported::Type(name, members) => {
@@ -184,7 +215,9 @@ fn read_imported<'a>(imported: &'a Imported, out: &mut Outline<'a>) -> Result<()
     }
 }
 
-fn read_hidden<'a>(imported: &'a Imported, out: &mut Outline<'a>) -> Result<(), AllocError> {
+fn read_hidden<'a>(imported: &'a Imported, out: &mut Outline<'a>) -> Result<(), AllocError>
+    ensures { OnOk result (seen out.new ≡ fold after (seen out.old) (hidden_events imported.now)) }
+{
     match imported {
         Imported::Variable(variable) => read_variable(variable, Naming::Hidden, out),
         Imported::Type(name, members) => {
