@@ -2,6 +2,10 @@
 //! runs.
 #![tactic(auto)]
 
+mod joint;
+mod naming;
 mod role;
 
+pub use joint::Joint;
+pub use naming::Naming;
 pub use role::Role;
