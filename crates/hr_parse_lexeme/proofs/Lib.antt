@@ -1,3 +1,3 @@
-pub mod Commas
+pub mod Separators
 pub mod Phrases
 pub mod Taking

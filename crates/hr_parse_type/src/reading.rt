@@ -3,7 +3,7 @@
 ghost use Rattle.std.specs.Prelude.{◌≡◌, ◌+◌, ◌-◌, ◌<◌, ◌≤◌, length, IfOk};
 ghost use Rattle.hr_layout.specs.Standing.{Standing};
 ghost use Rattle.hr_grammar.specs.Nodes.{TyPlace};
-ghost use Rattle.hr_parse_lexeme.specs.Reads.{Reads};
+ghost use Rattle.hr_parse_lexeme.specs.Reads.{Consumes};
 ghost use Rattle.hr_parse_lexeme.specs.declared.mark.Mark.{Mark};
 ghost use Rattle.hr_parse_type.specs.Heads.{head_height, OpensType, ReadsArguments, ReadsHead, ReadsTy, ReadsTypes};
 
@@ -21,7 +21,7 @@ use std::alloc::Global;
 /// `depth`.
 pub fn ty(alloc: Global, cursor: &mut Cursor, depth: u32) -> Result<Ty, ParseError>
     requires { depth ≤ 256 }
-    ensures { IfOk result (λ ty. Reads (256 - depth) (λ below n. below.ty n TyPlace.Whole ty) cursor.old cursor.new) }
+    ensures { IfOk result (λ ty. Consumes (256 - depth) (λ below n. below.ty n TyPlace.Whole ty) cursor.old cursor.new) }
 {
     match whole_type(alloc, cursor, depth) {
         Ok(Measured { tree, .. }) => Ok(tree.take()),

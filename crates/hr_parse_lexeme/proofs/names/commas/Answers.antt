@@ -1,5 +1,5 @@
 use Rattle.std.proofs.Common.{arith, ◌∷◌, [], ◌++◌, ap, ◌∙◌}
-use Rattle.hr_parse_lexeme.proofs.Commas.{first_taken, next_taken, are_commas}
+use Rattle.hr_parse_lexeme.proofs.Separators.{first_taken, next_taken, are_commas}
 use Rattle.hr_parse_lexeme.proofs.names.commas.Goals as goal
 
 pub loop-cursor-init : goal.loop-cursor-init

@@ -1,5 +1,5 @@
 use Rattle.std.proofs.Common.{◌-◌, length}
-use Rattle.hr_parse_lexeme.proofs.Commas.{AreTaken}
+use Rattle.hr_parse_lexeme.proofs.Separators.{AreTaken}
 use Rattle.hr_parse_lexeme.proofs.names.commas.Given as goal
 
 abbrev pub invariant-loop-cursor : goal.invariant-loop-cursor
