@@ -2,7 +2,6 @@ pub mod Binds
 pub mod Doubles
 pub mod Events
 pub mod Exports
-pub mod Found
 pub mod Imports
 pub mod Lists
 pub mod Modules
@@ -11,4 +10,3 @@ pub mod Outline
 pub mod Phrases
 pub mod Regions
 pub mod Roles
-pub mod Scopes

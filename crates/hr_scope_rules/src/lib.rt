@@ -1,4 +1,4 @@
-//! The rules of modules and scopes as definitions on trees, and plain functions that compute them. Nothing here
+//! The rules of modules and scopes as definitions on trees. Nothing here
 //! runs.
 #![tactic(auto)]
 

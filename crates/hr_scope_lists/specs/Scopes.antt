@@ -90,11 +90,10 @@ Scoped = Option (List ℕ) × Entity
 abbrev pub under : Option (List ℕ) → List Entity → List Scoped
 under qualifier entities = map (λ entity. (qualifier, entity)) entities
 
--- what the modules of that name export, where each module exports what `known` says by its number
-abbrev pub exported_from : (ℕ → List Entity) → ℕ → List Module → List ℕ → List Entity
-exported_from known number [] origin = []
-exported_from known number (tree ∷ rest) origin =
-    (if bytes_eq (module_name tree) origin then known number else []) ++ exported_from known (number + 1) rest origin
+-- what the modules of that name have, each by its number
+abbrev pub from_modules : {X : Type 0} → (ℕ → List X) → ℕ → List Module → List ℕ → List X
+from_modules of number [] origin = []
+from_modules of number (tree ∷ rest) origin = (if bytes_eq (module_name tree) origin then of number else []) ++ from_modules of (number + 1) rest origin
 
 -- what an import brings into scope
 abbrev pub accessed : Access → List Entity → List Scoped
@@ -103,10 +102,13 @@ accessed access entities = (if access.qualified then [] else under None entities
 abbrev pub brought : List (Entity × Entity) → List Entity → Access → List Scoped
 brought parts exported access = accessed access (filter (passes_names parts exported access.names) exported)
 
+-- what an import brings from the modules of the name that it names, where each exports what `known` says
+abbrev pub imported_from : List Module → (ℕ → List Entity) → Access → List Scoped
+imported_from modules known access = from_modules (λ origin. brought (all_parts modules) (known origin) access) 0 modules access.origin
+
 abbrev pub scope_over : List Module → (ℕ → List Entity) → Module → List Scoped
 scope_over modules known tree =
-    under None (own_entities tree) ++ under (Some (module_name tree)) (own_entities tree)
-    ++ flat_map (λ access. brought (all_parts modules) (exported_from known 0 modules access.origin) access) (accesses tree)
+    under None (own_entities tree) ++ (under (Some (module_name tree)) (own_entities tree) ++ flat_map (imported_from modules known) (accesses tree))
 
 -- the entities for which a name stands in a scope
 abbrev pub standing : List Scoped → Space → Name → List Entity
@@ -115,16 +117,21 @@ standing scope space name = map (λ one. one.1) (filter (λ one. same_qualifier 
 abbrev pub in_scope_as : List Scoped → Option (List ℕ) → Entity → Bool
 in_scope_as scope qualifier entity = list_any (λ one. same_qualifier one.0 qualifier && same_entity one.1 entity) scope
 
+-- the entities that are in scope under that qualifier, or under none
+abbrev pub under_qualifier : List Scoped → Option (List ℕ) → List Entity
+under_qualifier scope qualifier = map (λ one. one.1) (filter (λ one. same_qualifier one.0 qualifier) scope)
+
+-- the parts of a type that are in scope and selected
+abbrev pub members_of : List (Entity × Entity) → List Scoped → Option Members → Entity → List Entity
+members_of parts scope members ty = filter (λ entity. is_part parts ty entity && selects members entity.text) (map (λ one. one.1) scope)
+
+abbrev pub types_and_members : List (Entity × Entity) → List Scoped → Option Members → List Entity → List Entity
+types_and_members parts scope members types = types ++ flat_map (members_of parts scope members) types
+
 abbrev pub item_exports : List (Entity × Entity) → List Scoped → Export → List Entity
 item_exports parts scope (Export.Variable variable) = standing scope Space.Value (name_of (lexeme_of variable).lexeme)
-item_exports parts scope (Export.Type name members) = types ++ flat_map members_of types where
-  types : List Entity
-  types = standing scope Space.TypeName (name_of name.lexeme)
-
-  members_of : Entity → List Entity
-  members_of ty = map (λ one. one.1) (filter (λ one. is_part parts ty one.1 && selects members one.1.text) scope)
-item_exports parts scope (Export.«Module» word name) =
-    filter (in_scope_as scope (Some name.lexeme.text)) (map (λ one. one.1) (filter (λ one. same_qualifier one.0 None) scope))
+item_exports parts scope (Export.Type name members) = types_and_members parts scope members (standing scope Space.TypeName (name_of name.lexeme))
+item_exports parts scope (Export.«Module» word name) = filter (in_scope_as scope (Some name.lexeme.text)) (under_qualifier scope None)
 
 abbrev pub list_exports : List (Entity × Entity) → List Scoped → Module → Option (NameList Export) → List Entity
 list_exports parts scope tree None = own_entities tree

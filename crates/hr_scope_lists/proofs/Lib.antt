@@ -1,0 +1,9 @@
+pub mod Members
+pub mod Tests
+pub mod Parts
+pub mod ScopeSteps
+pub mod ExportSteps
+pub mod Levels
+pub mod RegionSteps
+pub mod FoundSteps
+pub mod BinderSteps
