@@ -5,14 +5,14 @@ use Rattle.std.proofs.lemmas.Bool.{cases_lt}
 use Rattle.std.proofs.lemmas.List.{length_push, length-append, length-map, length-take, length-set, get_or-take, get_or_default, get_or-map, get_or_read}
 use Rattle.std.proofs.lemmas.List.Elements.{Contains-push}
 use Rattle.hr_graph.specs.declared.strong.Mark.{Mark}
-use Rattle.hr_graph.specs.declared.strong.Mark.TheVariants.{Unseen, Open, Closed}
-use Rattle.hr_graph.specs.Strong.{IsSuccessor, stay, go, mark_of, IsSearch, IsSound, IsFollowing, Joined, AreEarly, closed_from, waiting, weigh, work, ones, loads, IsSeen}
+use Rattle.hr_graph.specs.declared.strong.Mark.TheVariants.{Unseen, Open, Labelled}
+use Rattle.hr_graph.specs.Strong.{IsSuccessor, stay, go, mark_of, IsSearch, IsSound, IsFollowing, Joined, AreEarly, labelled_from, waiting, weigh, work, ones, loads, IsSeen}
 use Rattle.hr_graph.proofs.Members.{contains_more}
 use Rattle.hr_graph.proofs.StrongSteps.{way_on, entered, passed, joined, popped, shut, pairs_last}
 
-pub sound_same : {rows : List (List ℕ)} (marks m : List Mark) (path p starts s : List ℕ) (pending w : List (ℕ × ℕ)) (closed c : ℕ)
-    → m ≡ marks → p ≡ path → s ≡ starts → w ≡ pending → c ≡ closed → IsSound rows marks path starts pending closed → IsSound rows m p s w c
-sound_same {rows} marks m path p starts s pending w closed c em ep es ew ec sound =
+pub sound_same : {rows : List (List ℕ)} (marks m : List Mark) (path p starts s : List ℕ) (pending w : List (ℕ × ℕ)) (labelled c : ℕ)
+    → m ≡ marks → p ≡ path → s ≡ starts → w ≡ pending → c ≡ labelled → IsSound rows marks path starts pending labelled → IsSound rows m p s w c
+sound_same {rows} marks m path p starts s pending w labelled c em ep es ew ec sound =
     subst (λ m. IsSound rows m p s w c) (sym em) (subst (λ p. IsSound rows marks p s w c) (sym ep) (subst (λ s. IsSound rows marks path s w c) (sym es)
     (subst (λ w. IsSound rows marks path starts w c) (sym ew) (subst (λ c. IsSound rows marks path starts pending c) (sym ec) sound))))
 
@@ -23,21 +23,21 @@ weigh_entered [] marks v place within is = refl
 weigh_entered (w ∷ ws) [] v place within is = absurd (omega (arith, within))
 weigh_entered (w ∷ ws) (Unseen ∷ marks) zero place within is = refl
 weigh_entered (w ∷ ws) (Open p ∷ marks) zero place within is = let clash : Open p ≡ Unseen = is in cc
-weigh_entered (w ∷ ws) (Closed label ∷ marks) zero place within is = let clash : Closed label ≡ Unseen = is in cc
+weigh_entered (w ∷ ws) (Labelled label ∷ marks) zero place within is = let clash : Labelled label ≡ Unseen = is in cc
 weigh_entered (w ∷ ws) (Unseen ∷ marks) (suc v) place within is = let rest : get_or ws v 0 + weigh ws (set marks v (Open place)) ≡ weigh ws marks = weigh_entered ws marks v place (omega (arith, within)) is in omega arith
 weigh_entered (w ∷ ws) (Open p ∷ marks) (suc v) place within is = weigh_entered ws marks v place (omega (arith, within)) is
-weigh_entered (w ∷ ws) (Closed label ∷ marks) (suc v) place within is = weigh_entered ws marks v place (omega (arith, within)) is
+weigh_entered (w ∷ ws) (Labelled label ∷ marks) (suc v) place within is = weigh_entered ws marks v place (omega (arith, within)) is
 
-weigh_choice : (b : Bool) (w p label : ℕ) (ws : List ℕ) (marks : List Mark) → weigh (w ∷ ws) (cond b (Open p) (Closed label) ∷ marks) ≡ weigh ws marks
+weigh_choice : (b : Bool) (w p label : ℕ) (ws : List ℕ) (marks : List Mark) → weigh (w ∷ ws) (cond b (Open p) (Labelled label) ∷ marks) ≡ weigh ws marks
 weigh_choice true w p label ws marks = refl
 weigh_choice false w p label ws marks = refl
 
-weigh_head : (label start w : ℕ) (m : Mark) (ws : List ℕ) (marks after : List Mark) → weigh ws after ≡ weigh ws marks → weigh (w ∷ ws) (closed_from label start m ∷ after) ≡ weigh (w ∷ ws) (m ∷ marks)
+weigh_head : (label start w : ℕ) (m : Mark) (ws : List ℕ) (marks after : List Mark) → weigh ws after ≡ weigh ws marks → weigh (w ∷ ws) (labelled_from label start m ∷ after) ≡ weigh (w ∷ ws) (m ∷ marks)
 weigh_head label start w Unseen ws marks after same = ap (λ n. w + n) same
 weigh_head label start w (Open p) ws marks after same = weigh_choice (nat_lt p start) w p label ws after ∙ same
-weigh_head label start w (Closed other) ws marks after same = same
+weigh_head label start w (Labelled other) ws marks after same = same
 
-pub weigh_shut : (ws : List ℕ) (marks after : List Mark) (label start : ℕ) → length after ≡ length marks → ((v : ℕ) → mark_of after v ≡ closed_from label start (mark_of marks v)) → weigh ws after ≡ weigh ws marks
+pub weigh_shut : (ws : List ℕ) (marks after : List Mark) (label start : ℕ) → length after ≡ length marks → ((v : ℕ) → mark_of after v ≡ labelled_from label start (mark_of marks v)) → weigh ws after ≡ weigh ws marks
 weigh_shut [] marks after label start long each = refl
 weigh_shut (w ∷ ws) [] [] label start long each = refl
 weigh_shut (w ∷ ws) [] (a ∷ after) label start long each = absurd (omega (arith, long))
@@ -83,16 +83,16 @@ joined_all before after place j s (k, within, is) small =
 
 -- ---- the three cases of a target
 
-pub follow_unseen : (rows : List (List ℕ)) (marks : List Mark) (path starts : List ℕ) (pending : List (ℕ × ℕ)) (closed v : ℕ)
-    → IsFollowing rows marks path starts pending closed v → v < length rows → mark_of marks v ≡ Unseen
-    → IsSound rows (set marks v (Open (length path))) (path ++ v ∷ []) (starts ++ length path ∷ []) (pending ++ waiting (length path) (get_or rows v [])) closed
-follow_unseen rows marks path starts pending closed v f within is =
+pub follow_unseen : (rows : List (List ℕ)) (marks : List Mark) (path starts : List ℕ) (pending : List (ℕ × ℕ)) (labelled v : ℕ)
+    → IsFollowing rows marks path starts pending labelled v → v < length rows → mark_of marks v ≡ Unseen
+    → IsSound rows (set marks v (Open (length path))) (path ++ v ∷ []) (starts ++ length path ∷ []) (pending ++ waiting (length path) (get_or rows v [])) labelled
+follow_unseen rows marks path starts pending labelled v f within is =
     let in' : v < length marks = omega (arith, f.long) in
     let weight : get_or (ones rows) v 0 + weigh (ones rows) (set marks v (Open (length path))) ≡ weigh (ones rows) marks
     = weigh_entered (ones rows) marks v (length path) in' is in
     let one : get_or (ones rows) v 0 ≡ 1 = get_or-map (λ row. 1) rows v [] 0 within in
     record {
-      search = entered rows marks path starts pending closed v f.search in' is
+      search = entered rows marks path starts pending labelled v f.search in' is
           (λ q q_in.
           way_on (get_or path q 0) (get_or path f.place 0) v (f.search.way q f.place q_in f.within (λ s in' lt. absurd (let le : s ≤ f.place = f.last s in' in omega arith)))
           (go (get_or path f.place 0) v v f.edge (stay v)));
@@ -111,14 +111,14 @@ less_unseen rows marks path starts pending v long within is =
     = length-append pending (waiting (length path) (get_or rows v [])) ∙ ap (λ n. length pending + n) (length-map (get_or rows v []) (λ w. (length path, w))) in
     omega (arith, length_push starts (length path))
 
-pub follow_open : (rows : List (List ℕ)) (marks : List Mark) (path starts fewer : List ℕ) (pending : List (ℕ × ℕ)) (closed v q : ℕ)
-    → IsFollowing rows marks path starts pending closed v → mark_of marks v ≡ Open q → Joined starts fewer q
-    → IsSound rows marks path fewer pending closed
-follow_open rows marks path starts fewer pending closed v q f is j =
+pub follow_open : (rows : List (List ℕ)) (marks : List Mark) (path starts fewer : List ℕ) (pending : List (ℕ × ℕ)) (labelled v q : ℕ)
+    → IsFollowing rows marks path starts pending labelled v → mark_of marks v ≡ Open q → Joined starts fewer q
+    → IsSound rows marks path fewer pending labelled
+follow_open rows marks path starts fewer pending labelled v q f is j =
     let rise : AllPairs (λ s t. s < t) starts = f.search.begins.rise in
     let short : length fewer ≤ length starts = omega (arith, ap length j.front, length-take (length fewer) starts) in
     record {
-      search = joined rows marks path starts fewer pending closed v f.place q f.search is f.within f.edge f.last
+      search = joined rows marks path starts fewer pending labelled v f.place q f.search is f.within f.edge f.last
           (joined_sub starts fewer q j) (joined_small starts fewer q j rise) (joined_all starts fewer q j) (joined_rise starts fewer q j rise);
       long = f.long;
       room = omega (arith, f.room);
@@ -127,10 +127,10 @@ follow_open rows marks path starts fewer pending closed v q f is j =
 pub less_open : (rows : List (List ℕ)) (marks : List Mark) (starts fewer : List ℕ) (pending : List (ℕ × ℕ)) (q : ℕ) → Joined starts fewer q → work rows marks fewer pending ≤ work rows marks starts pending
 less_open rows marks starts fewer pending q j = omega (arith, ap length j.front, length-take (length fewer) starts)
 
-pub follow_closed : (rows : List (List ℕ)) (marks : List Mark) (path starts : List ℕ) (pending : List (ℕ × ℕ)) (closed v label : ℕ)
-    → IsFollowing rows marks path starts pending closed v → mark_of marks v ≡ Closed label → IsSound rows marks path starts pending closed
-follow_closed rows marks path starts pending closed v label f is = record {
-  search = passed rows marks path starts pending closed v label f.search is;
+pub follow_labelled : (rows : List (List ℕ)) (marks : List Mark) (path starts : List ℕ) (pending : List (ℕ × ℕ)) (labelled v label : ℕ)
+    → IsFollowing rows marks path starts pending labelled v → mark_of marks v ≡ Labelled label → IsSound rows marks path starts pending labelled
+follow_labelled rows marks path starts pending labelled v label f is = record {
+  search = passed rows marks path starts pending labelled v label f.search is;
   long = f.long;
   room = f.room;
 }
@@ -138,14 +138,14 @@ follow_closed rows marks path starts pending closed v label f is = record {
 -- ---- the last group has an edge left, or none
 
 -- an edge is taken off
-pub follow_next : (rows : List (List ℕ)) (marks : List Mark) (path starts fewer : List ℕ) (pending rest : List (ℕ × ℕ)) (closed start place v : ℕ)
-    → IsSound rows marks path starts pending closed → starts ≡ fewer ++ start ∷ [] → start ≤ place → pending ≡ rest ++ (place, v) ∷ []
-    → IsFollowing rows marks path starts rest closed v
-follow_next rows marks path starts fewer pending rest closed start place v sound last le is =
-    let search : IsSearch rows marks path starts (rest ++ (place, v) ∷ []) closed = subst (λ w. IsSearch rows marks path starts w closed) is sound.search in
+pub follow_next : (rows : List (List ℕ)) (marks : List Mark) (path starts fewer : List ℕ) (pending rest : List (ℕ × ℕ)) (labelled start place v : ℕ)
+    → IsSound rows marks path starts pending labelled → starts ≡ fewer ++ start ∷ [] → start ≤ place → pending ≡ rest ++ (place, v) ∷ []
+    → IsFollowing rows marks path starts rest labelled v
+follow_next rows marks path starts fewer pending rest labelled start place v sound last le is =
+    let search : IsSearch rows marks path starts (rest ++ (place, v) ∷ []) labelled = subst (λ w. IsSearch rows marks path starts w labelled) is sound.search in
     let edge : (place < length path) × IsSuccessor rows (get_or path place 0) v = search.waits.edge place v (Contains-push rest (place, v)) in
     record {
-      search = popped rows marks path starts rest closed place v search;
+      search = popped rows marks path starts rest labelled place v search;
       long = sound.long;
       room = sound.room;
       place = place;
@@ -169,7 +169,7 @@ early_all rows path pending start rise early p v (k, within, is) =
 
 pub close_last : (rows : List (List ℕ)) (marks after : List Mark) (path starts fewer : List ℕ) (pending : List (ℕ × ℕ)) (label start : ℕ)
     → IsSound rows marks path starts pending label → starts ≡ fewer ++ start ∷ [] → AreEarly pending start
-    → length after ≡ length marks → ((v : ℕ) → mark_of after v ≡ closed_from label start (mark_of marks v))
+    → length after ≡ length marks → ((v : ℕ) → mark_of after v ≡ labelled_from label start (mark_of marks v))
     → IsSound rows after (take start path) fewer pending (label + 1)
 close_last rows marks after path starts fewer pending label start sound last early long each =
     let search : IsSearch rows marks path (fewer ++ start ∷ []) pending label = subst (λ xs. IsSearch rows marks path xs pending label) last sound.search in
@@ -181,7 +181,7 @@ close_last rows marks after path starts fewer pending label start sound last ear
     }
 
 pub less_close : (rows : List (List ℕ)) (marks after : List Mark) (starts fewer : List ℕ) (pending : List (ℕ × ℕ)) (label start : ℕ)
-    → starts ≡ fewer ++ start ∷ [] → length after ≡ length marks → ((v : ℕ) → mark_of after v ≡ closed_from label start (mark_of marks v))
+    → starts ≡ fewer ++ start ∷ [] → length after ≡ length marks → ((v : ℕ) → mark_of after v ≡ labelled_from label start (mark_of marks v))
     → work rows after fewer pending < work rows marks starts pending
 less_close rows marks after starts fewer pending label start last long each =
     omega (arith, ap length last, length_push fewer start, weigh_shut (loads rows) marks after label start long each)
@@ -200,12 +200,12 @@ pub row_read : (rows : List (List ℕ)) (v place : ℕ) (read row : List ℕ) (p
     → w ≡ pending ++ waiting place row → w ≡ pending ++ waiting place (get_or rows v [])
 row_read rows v place read row pending w within is same e = e ∙ ap (λ row. pending ++ waiting place row) (same ∙ get_or_read rows v read within is [])
 
-seen_choice : (b : Bool) (p label : ℕ) → IsSeen (cond b (Open p) (Closed label))
+seen_choice : (b : Bool) (p label : ℕ) → IsSeen (cond b (Open p) (Labelled label))
 seen_choice true p label = tt
 seen_choice false p label = tt
 
 -- closing leaves what was seen so
-pub seen_closing : (label start : ℕ) (m : Mark) → IsSeen m → IsSeen (closed_from label start m)
+pub seen_closing : (label start : ℕ) (m : Mark) → IsSeen m → IsSeen (labelled_from label start m)
 seen_closing label start Unseen h = h
 seen_closing label start (Open p) h = seen_choice (nat_lt p start) p label
-seen_closing label start (Closed other) h = tt
+seen_closing label start (Labelled other) h = tt

@@ -4,7 +4,7 @@ use Rattle.std.specs.Prelude.{Contains}
 use Rattle.std.proofs.lemmas.Bool.{cases_lt}
 use Rattle.std.proofs.lemmas.List.{length_push, length-set, length-map, length-replicate, get_or-replicate, get_or_past, get_or-map}
 use Rattle.hr_graph.specs.declared.strong.Mark.{Mark}
-use Rattle.hr_graph.specs.declared.strong.Mark.TheVariants.{Unseen, Open, Closed}
+use Rattle.hr_graph.specs.declared.strong.Mark.TheVariants.{Unseen, Open, Labelled}
 use Rattle.hr_graph.specs.Graph.{IsWithin, LeadsTo, here, along}
 use Rattle.hr_graph.specs.Rows.{AreRows}
 use Rattle.hr_graph.specs.Strong.{WayAlong, stay, go, mark_of, IsSearch, IsSearchBut, IsNotLater, IsSound, HasTargets, waiting, weigh, ones, IsSeen, label_in, AreLabels, IsFresh}
@@ -17,7 +17,7 @@ weigh_ones [] marks = omega arith
 weigh_ones (row ∷ rows) [] = omega arith
 weigh_ones (row ∷ rows) (Unseen ∷ marks) = omega (arith, weigh_ones rows marks)
 weigh_ones (row ∷ rows) (Open p ∷ marks) = omega (arith, weigh_ones rows marks)
-weigh_ones (row ∷ rows) (Closed label ∷ marks) = omega (arith, weigh_ones rows marks)
+weigh_ones (row ∷ rows) (Labelled label ∷ marks) = omega (arith, weigh_ones rows marks)
 
 all_unseen : (n v : ℕ) → mark_of (replicate n Unseen) v ≡ Unseen
 all_unseen n v = elim (cases_lt v n) [
@@ -28,8 +28,8 @@ all_unseen n v = elim (cases_lt v n) [
 not_open : (n v p : ℕ) → mark_of (replicate n Unseen) v ≡ Open p → ⊥
 not_open n v p is = let clash : Unseen ≡ Open p = sym (all_unseen n v) ∙ is in cc
 
-not_closed : (n v label : ℕ) → mark_of (replicate n Unseen) v ≡ Closed label → ⊥
-not_closed n v label is = let clash : Unseen ≡ Closed label = sym (all_unseen n v) ∙ is in cc
+not_labelled : (n v label : ℕ) → mark_of (replicate n Unseen) v ≡ Labelled label → ⊥
+not_labelled n v label is = let clash : Unseen ≡ Labelled label = sym (all_unseen n v) ∙ is in cc
 
 start_search : (rows : List (List ℕ)) (n : ℕ) → IsSearch rows (replicate n Unseen) [] [] [] 0
 start_search rows n = record {
@@ -39,42 +39,42 @@ start_search rows n = record {
   waits = record { edge = λ p v h. absurd (contains_none (p, v) h); rise = λ i j d lt within. absurd (omega (arith, within)) };
   edge = λ p v lt. absurd (omega (arith, lt));
   shut = record {
-    edge = λ u v label is. absurd (not_closed n u label is);
-    way = λ u v label is. absurd (not_closed n u label is);
-    below = λ u label is. absurd (not_closed n u label is);
+    edge = λ u v label is. absurd (not_labelled n u label is);
+    way = λ u v label is. absurd (not_labelled n u label is);
+    below = λ u label is. absurd (not_labelled n u label is);
   };
 }
 
-pub fresh_sound : (rows : List (List ℕ)) (n : ℕ) (marks : List Mark) (path starts : List ℕ) (pending : List (ℕ × ℕ)) (closed : ℕ)
-    → length rows ≡ n → IsFresh n marks path starts pending closed → IsSound rows marks path starts pending closed
-fresh_sound rows n marks path starts pending closed long f =
-    sound_same (replicate n Unseen) marks [] path [] starts [] pending 0 closed f.marks_are f.path_is f.starts_are f.pending_is f.closed_is
+pub fresh_sound : (rows : List (List ℕ)) (n : ℕ) (marks : List Mark) (path starts : List ℕ) (pending : List (ℕ × ℕ)) (labelled : ℕ)
+    → length rows ≡ n → IsFresh n marks path starts pending labelled → IsSound rows marks path starts pending labelled
+fresh_sound rows n marks path starts pending labelled long f =
+    sound_same (replicate n Unseen) marks [] path [] starts [] pending 0 labelled f.marks_are f.path_is f.starts_are f.pending_is f.labelled_is
     (record { search = start_search rows n; long = length-replicate n Unseen ∙ sym long; room = omega (arith, weigh_ones rows (replicate n Unseen)) })
 
 -- with no group there is no open node
-no_place : (rows : List (List ℕ)) (marks : List Mark) (path starts : List ℕ) (pending : List (ℕ × ℕ)) (closed p : ℕ) → IsSound rows marks path starts pending closed → starts ≡ [] → p < length path → ⊥
-no_place rows marks path starts pending closed p sound empty within =
+no_place : (rows : List (List ℕ)) (marks : List Mark) (path starts : List ℕ) (pending : List (ℕ × ℕ)) (labelled p : ℕ) → IsSound rows marks path starts pending labelled → starts ≡ [] → p < length path → ⊥
+no_place rows marks path starts pending labelled p sound empty within =
     let start : (s : ℕ) × Contains starts s × (s ≤ p) = sound.search.begins.cover p within in
     contains_none start.0 (subst (λ xs. Contains xs start.0) empty start.1)
 
-pub enter_root : (rows : List (List ℕ)) (marks : List Mark) (path starts : List ℕ) (pending : List (ℕ × ℕ)) (closed v : ℕ)
-    → IsSound rows marks path starts pending closed → starts ≡ [] → v < length rows → mark_of marks v ≡ Unseen
-    → IsSound rows (set marks v (Open (length path))) (path ++ v ∷ []) (starts ++ length path ∷ []) (pending ++ waiting (length path) (get_or rows v [])) closed
-enter_root rows marks path starts pending closed v sound empty within is =
+pub enter_root : (rows : List (List ℕ)) (marks : List Mark) (path starts : List ℕ) (pending : List (ℕ × ℕ)) (labelled v : ℕ)
+    → IsSound rows marks path starts pending labelled → starts ≡ [] → v < length rows → mark_of marks v ≡ Unseen
+    → IsSound rows (set marks v (Open (length path))) (path ++ v ∷ []) (starts ++ length path ∷ []) (pending ++ waiting (length path) (get_or rows v [])) labelled
+enter_root rows marks path starts pending labelled v sound empty within is =
     let in' : v < length marks = omega (arith, sound.long) in
     let weight : get_or (ones rows) v 0 + weigh (ones rows) (set marks v (Open (length path))) ≡ weigh (ones rows) marks
     = weigh_entered (ones rows) marks v (length path) in' is in
     let one : get_or (ones rows) v 0 ≡ 1 = get_or-map (λ row. 1) rows v [] 0 within in
-    let but : IsSearchBut v rows marks path starts pending closed = record {
+    let but : IsSearchBut v rows marks path starts pending labelled = record {
       on_path = sound.search.on_path;
       begins = sound.search.begins;
       way = sound.search.way;
       waits = sound.search.waits;
-      edge = λ p w lt target. absurd (no_place rows marks path starts pending closed p sound empty lt);
+      edge = λ p w lt target. absurd (no_place rows marks path starts pending labelled p sound empty lt);
       shut = sound.search.shut;
     } in
     record {
-      search = entered rows marks path starts pending closed v but in' is (λ q lt. absurd (no_place rows marks path starts pending closed q sound empty lt));
+      search = entered rows marks path starts pending labelled v but in' is (λ q lt. absurd (no_place rows marks path starts pending labelled q sound empty lt));
       long = length-set marks v (Open (length path)) ∙ sound.long;
       room = omega (arith, sound.room, length_push starts (length path));
     }
@@ -90,18 +90,18 @@ pub reaches_by : (n : ℕ) (edges : List (ℕ × ℕ)) (rows : List (List ℕ)) 
 reaches_by n edges rows u w are (stay _) = here u
 reaches_by n edges rows u w are (go _ v _ target rest) = along u v w (are.sound u v target) (reaches_by n edges rows v w are rest)
 
-closed_mark : (m : Mark) → IsSeen m → ((p : ℕ) → m ≡ Open p → ⊥) → (label : ℕ) × (m ≡ Closed label)
-closed_mark Unseen seen none = absurd seen
-closed_mark (Open p) seen none = absurd (none p refl)
-closed_mark (Closed label) seen none = (label, refl)
+labelled_mark : (m : Mark) → IsSeen m → ((p : ℕ) → m ≡ Open p → ⊥) → (label : ℕ) × (m ≡ Labelled label)
+labelled_mark Unseen seen none = absurd seen
+labelled_mark (Open p) seen none = absurd (none p refl)
+labelled_mark (Labelled label) seen none = (label, refl)
 
-pub labels_done : (n : ℕ) (edges : List (ℕ × ℕ)) (rows : List (List ℕ)) (marks : List Mark) (path starts : List ℕ) (pending : List (ℕ × ℕ)) (closed : ℕ)
-    → AreRows n edges rows → IsWithin n edges → IsSound rows marks path starts pending closed → starts ≡ [] → ((v : ℕ) → v < n → IsSeen (mark_of marks v))
+pub labels_done : (n : ℕ) (edges : List (ℕ × ℕ)) (rows : List (List ℕ)) (marks : List Mark) (path starts : List ℕ) (pending : List (ℕ × ℕ)) (labelled : ℕ)
+    → AreRows n edges rows → IsWithin n edges → IsSound rows marks path starts pending labelled → starts ≡ [] → ((v : ℕ) → v < n → IsSeen (mark_of marks v))
     → AreLabels n edges (map label_in marks)
-labels_done n edges rows marks path starts pending closed are ends sound empty seen =
+labels_done n edges rows marks path starts pending labelled are ends sound empty seen =
     let long : length marks ≡ n = sound.long ∙ are.length_is in
-    let known : (v : ℕ) → v < n → (label : ℕ) × (mark_of marks v ≡ Closed label)
-    = λ v lt. closed_mark (mark_of marks v) (seen v lt) (λ p is. no_place rows marks path starts pending closed p sound empty (sound.search.on_path.place v p is).0) in
+    let known : (v : ℕ) → v < n → (label : ℕ) × (mark_of marks v ≡ Labelled label)
+    = λ v lt. labelled_mark (mark_of marks v) (seen v lt) (λ p is. no_place rows marks path starts pending labelled p sound empty (sound.search.on_path.place v p is).0) in
     let label_is : (v : ℕ) (lt : v < n) → get_or (map label_in marks) v 0 ≡ (known v lt).0
     = λ v lt. get_or-map label_in marks v Unseen 0 (omega arith) ∙ ap label_in (known v lt).1 in
     let both : (u v : ℕ) → Contains edges (u, v) → (u < n) × (v < n)
@@ -110,7 +110,7 @@ labels_done n edges rows marks path starts pending closed are ends sound empty s
     (omega (arith, ap (λ e. e.0) h.2, end.0), omega (arith, ap (λ e. e.1) h.2, end.1)) in
     record {
       long = length-map marks label_in ∙ long;
-      small = λ u lt. let below : (known u lt).0 < closed = sound.search.shut.below u (known u lt).0 (known u lt).1 in omega (arith, label_is u lt, sound.room, are.length_is);
+      small = λ u lt. let below : (known u lt).0 < labelled = sound.search.shut.below u (known u lt).0 (known u lt).1 in omega (arith, label_is u lt, sound.room, are.length_is);
       falls = λ u v edge.
           let lu : u < n = (both u v edge).0 in
           let lv : v < n = (both u v edge).1 in
@@ -119,5 +119,5 @@ labels_done n edges rows marks path starts pending closed are ends sound empty s
           omega (arith, label_is u lu, label_is v lv);
       way = λ u v lu lv same.
           let e : (known v lv).0 ≡ (known u lu).0 = sym (label_is v lv) ∙ sym same ∙ label_is u lu in
-          reaches_by n edges rows u v are (sound.search.shut.way u v (known u lu).0 (known u lu).1 ((known v lv).1 ∙ ap Closed e));
+          reaches_by n edges rows u v are (sound.search.shut.way u v (known u lu).0 (known u lu).1 ((known v lv).1 ∙ ap Labelled e));
     }

@@ -7,8 +7,8 @@ use Rattle.std.proofs.lemmas.List.{length_push, get_or_push, get_or_append_left,
 use Rattle.std.proofs.lemmas.List.Elements.{Contains-push, Contains-push_cases, Contains-append_left, Contains-append_right, Contains-append_cases, Contains-get_or}
 use Rattle.std.proofs.lemmas.List.Quantifiers.{all_pairs_push}
 use Rattle.hr_graph.specs.declared.strong.Mark.{Mark}
-use Rattle.hr_graph.specs.declared.strong.Mark.TheVariants.{Unseen, Open, Closed}
-use Rattle.hr_graph.specs.Strong.{IsSuccessor, WayAlong, stay, go, mark_of, ComesBack, IsPath, AreStarts, ArePending, IsSettled, IsNotLater, AreClosed, IsSearch, IsSearchBut, closed_from, waiting}
+use Rattle.hr_graph.specs.declared.strong.Mark.TheVariants.{Unseen, Open, Labelled}
+use Rattle.hr_graph.specs.Strong.{IsSuccessor, WayAlong, stay, go, mark_of, ComesBack, IsPath, AreStarts, ArePending, IsSettled, IsNotLater, AreLabelled, IsSearch, IsSearchBut, labelled_from, waiting}
 use Rattle.hr_graph.proofs.Members.{contains_none, contains_more, contains_kept}
 
 -- ways join
@@ -30,13 +30,13 @@ at_push P xs x d each last p within =
 settled_fewer : (starts fewer : List ℕ) (p : ℕ) (m : Mark) → ((s : ℕ) → Contains fewer s → Contains starts s) → IsSettled starts p m → IsSettled fewer p m
 settled_fewer starts fewer p Unseen sub h = h
 settled_fewer starts fewer p (Open q) sub h = λ s in' lt. h s (sub s in') lt
-settled_fewer starts fewer p (Closed label) sub h = h
+settled_fewer starts fewer p (Labelled label) sub h = h
 
 -- and where a group begins behind the place
 settled_more : (starts : List ℕ) (p new : ℕ) (m : Mark) → p < new → IsSettled starts p m → IsSettled (starts ++ new ∷ []) p m
 settled_more starts p new Unseen before h = h
 settled_more starts p new (Open q) before h = λ s in' lt. contains_more (λ s. q < s → p < s) starts new (λ s old lt. h s old lt) (λ _. before) s in' lt
-settled_more starts p new (Closed label) before h = h
+settled_more starts p new (Labelled label) before h = h
 
 comes_back_fewer : (starts : List ℕ) (new p q : ℕ) → ComesBack (starts ++ new ∷ []) p q → ComesBack starts p q
 comes_back_fewer starts new p q h = λ s in' lt. h s (contains_kept starts new s in') lt
@@ -52,7 +52,7 @@ mark_new marks v new within = get_or-set_same marks v new Unseen within
 pub place_is : (p q : ℕ) → Open p ≡ Open q → p ≡ q
 place_is p q e = cc
 
-pub label_is : (p q : ℕ) → Closed p ≡ Closed q → p ≡ q
+pub label_is : (p q : ℕ) → Labelled p ≡ Labelled q → p ≡ q
 label_is p q e = cc
 
 enter_path : (marks : List Mark) (path : List ℕ) (v : ℕ) → IsPath marks path → v < length marks → mark_of marks v ≡ Unseen → IsPath (set marks v (Open (length path))) (path ++ v ∷ [])
@@ -173,11 +173,11 @@ settled_entered marks path starts v p w within before below h unseen =
       ]
     ]
 
-enter_closed : (rows : List (List ℕ)) (marks : List Mark) (closed v place : ℕ) → AreClosed rows marks closed → v < length marks → mark_of marks v ≡ Unseen → AreClosed rows (set marks v (Open place)) closed
-enter_closed rows marks closed v place shut within unseen =
-    let old : (u label : ℕ) → mark_of (set marks v (Open place)) u ≡ Closed label → mark_of marks u ≡ Closed label
+enter_labelled : (rows : List (List ℕ)) (marks : List Mark) (labelled v place : ℕ) → AreLabelled rows marks labelled → v < length marks → mark_of marks v ≡ Unseen → AreLabelled rows (set marks v (Open place)) labelled
+enter_labelled rows marks labelled v place shut within unseen =
+    let old : (u label : ℕ) → mark_of (set marks v (Open place)) u ≡ Labelled label → mark_of marks u ≡ Labelled label
     = λ u label is. elim (cases_eq u v) [
-      | inl e ↦ let clash : Open place ≡ Closed label = sym (mark_new marks v (Open place) within) ∙ ap (mark_of (set marks v (Open place))) (sym e) ∙ is in cc
+      | inl e ↦ let clash : Open place ≡ Labelled label = sym (mark_new marks v (Open place) within) ∙ ap (mark_of (set marks v (Open place))) (sym e) ∙ is in cc
       | inr ne ↦ sym (mark_same marks v u (Open place) ne) ∙ is
     ] in
     record {
@@ -191,11 +191,11 @@ enter_closed rows marks closed v place shut within unseen =
       below = λ u label is. shut.below u label (old u label is);
     }
 
-pub entered : (rows : List (List ℕ)) (marks : List Mark) (path starts : List ℕ) (pending : List (ℕ × ℕ)) (closed v : ℕ)
-    → IsSearchBut v rows marks path starts pending closed → v < length marks → mark_of marks v ≡ Unseen
+pub entered : (rows : List (List ℕ)) (marks : List Mark) (path starts : List ℕ) (pending : List (ℕ × ℕ)) (labelled v : ℕ)
+    → IsSearchBut v rows marks path starts pending labelled → v < length marks → mark_of marks v ≡ Unseen
     → ((q : ℕ) → q < length path → WayAlong rows (get_or path q 0) v)
-    → IsSearch rows (set marks v (Open (length path))) (path ++ v ∷ []) (starts ++ length path ∷ []) (pending ++ waiting (length path) (get_or rows v [])) closed
-entered rows marks path starts pending closed v keeps within unseen reaches = record {
+    → IsSearch rows (set marks v (Open (length path))) (path ++ v ∷ []) (starts ++ length path ∷ []) (pending ++ waiting (length path) (get_or rows v [])) labelled
+entered rows marks path starts pending labelled v keeps within unseen reaches = record {
   on_path = enter_path marks path v keeps.on_path within unseen;
   begins = enter_starts path starts v keeps.begins;
   way = enter_way rows path starts v keeps.way reaches;
@@ -211,7 +211,7 @@ entered rows marks path starts pending closed v keeps within unseen reaches = re
       ])
       (λ target. inl (Contains-append_right pending (waiting (length path) (get_or rows v [])) (length path, w) (waits_for (length path) (get_or rows v []) w target)))
       p p_in target;
-  shut = enter_closed rows marks closed v (length path) keeps.shut within unseen;
+  shut = enter_labelled rows marks labelled v (length path) keeps.shut within unseen;
 }
 
 -- ---- the last element of a list in order
@@ -231,9 +231,9 @@ pairs_last R xs y x pairs (k, within, is) =
 -- ---- an edge is taken
 
 -- without the edge to v that is being followed
-pub popped : (rows : List (List ℕ)) (marks : List Mark) (path starts : List ℕ) (pending : List (ℕ × ℕ)) (closed p v : ℕ)
-    → IsSearch rows marks path starts (pending ++ (p, v) ∷ []) closed → IsSearchBut v rows marks path starts pending closed
-popped rows marks path starts pending closed p v keeps = record {
+pub popped : (rows : List (List ℕ)) (marks : List Mark) (path starts : List ℕ) (pending : List (ℕ × ℕ)) (labelled p v : ℕ)
+    → IsSearch rows marks path starts (pending ++ (p, v) ∷ []) labelled → IsSearchBut v rows marks path starts pending labelled
+popped rows marks path starts pending labelled p v keeps = record {
   on_path = keeps.on_path;
   begins = keeps.begins;
   way = keeps.way;
@@ -251,10 +251,10 @@ popped rows marks path starts pending closed p v keeps = record {
   shut = keeps.shut;
 }
 
--- the target is closed
-pub passed : (rows : List (List ℕ)) (marks : List Mark) (path starts : List ℕ) (pending : List (ℕ × ℕ)) (closed v label : ℕ)
-    → IsSearchBut v rows marks path starts pending closed → mark_of marks v ≡ Closed label → IsSearch rows marks path starts pending closed
-passed rows marks path starts pending closed v label keeps is = record {
+-- the target is labelled
+pub passed : (rows : List (List ℕ)) (marks : List Mark) (path starts : List ℕ) (pending : List (ℕ × ℕ)) (labelled v label : ℕ)
+    → IsSearchBut v rows marks path starts pending labelled → mark_of marks v ≡ Labelled label → IsSearch rows marks path starts pending labelled
+passed rows marks path starts pending labelled v label keeps is = record {
   on_path = keeps.on_path;
   begins = keeps.begins;
   way = keeps.way;
@@ -267,13 +267,13 @@ passed rows marks path starts pending closed v label keeps is = record {
 }
 
 -- the target is open: the groups behind its own are joined with it
-pub joined : (rows : List (List ℕ)) (marks : List Mark) (path starts fewer : List ℕ) (pending : List (ℕ × ℕ)) (closed v p q : ℕ)
-    → IsSearchBut v rows marks path starts pending closed → mark_of marks v ≡ Open q
+pub joined : (rows : List (List ℕ)) (marks : List Mark) (path starts fewer : List ℕ) (pending : List (ℕ × ℕ)) (labelled v p q : ℕ)
+    → IsSearchBut v rows marks path starts pending labelled → mark_of marks v ≡ Open q
     → p < length path → IsSuccessor rows (get_or path p 0) v → ((s : ℕ) → Contains starts s → s ≤ p)
     → ((s : ℕ) → Contains fewer s → Contains starts s) → ((s : ℕ) → Contains fewer s → s ≤ q)
     → ((s : ℕ) → Contains starts s → s ≤ q → Contains fewer s) → AllPairs (λ s t. s < t) fewer
-    → IsSearch rows marks path fewer pending closed
-joined rows marks path starts fewer pending closed v p q keeps is p_in target last sub small all rise =
+    → IsSearch rows marks path fewer pending labelled
+joined rows marks path starts fewer pending labelled v p q keeps is p_in target last sub small all rise =
     let at : (q < length path) × (get_or path q 0 ≡ v) = keeps.on_path.place v q is in
     record {
       on_path = keeps.on_path;
@@ -309,55 +309,55 @@ joined rows marks path starts fewer pending closed v p q keeps is p_in target la
       shut = keeps.shut;
     }
 
--- ---- the last group is closed
+-- ---- the last group is labelled
 
-pub at_place : (label start p : ℕ) → p < start → closed_from label start (Open p) ≡ Open p
+pub at_place : (label start p : ℕ) → p < start → labelled_from label start (Open p) ≡ Open p
 at_place label start p lt = grind (arith, nat_tests)
 
-pub past_place : (label start p : ℕ) → start ≤ p → closed_from label start (Open p) ≡ Closed label
+pub past_place : (label start p : ℕ) → start ≤ p → labelled_from label start (Open p) ≡ Labelled label
 past_place label start p le = grind (arith, nat_tests)
 
-closing_open : (label start p : ℕ) (m : Mark) → closed_from label start m ≡ Open p → (m ≡ Open p) × (p < start)
+closing_open : (label start p : ℕ) (m : Mark) → labelled_from label start m ≡ Open p → (m ≡ Open p) × (p < start)
 closing_open label start p Unseen is = let clash : Unseen ≡ Open p = is in cc
 closing_open label start p (Open q) is = elim (cases_lt q start) [
   | inl lt ↦ let same : q ≡ p = place_is q p (sym (at_place label start q lt) ∙ is) in (ap Open same, subst (λ p. p < start) same lt)
-  | inr ge ↦ let clash : Closed label ≡ Open p = sym (past_place label start q ge) ∙ is in cc
+  | inr ge ↦ let clash : Labelled label ≡ Open p = sym (past_place label start q ge) ∙ is in cc
 ]
-closing_open label start p (Closed other) is = let clash : Closed other ≡ Open p = is in cc
+closing_open label start p (Labelled other) is = let clash : Labelled other ≡ Open p = is in cc
 
-closing_closed : (label start k : ℕ) (m : Mark) → closed_from label start m ≡ Closed k → (m ≡ Closed k) ⊎ ((k ≡ label) × ((p : ℕ) × (m ≡ Open p) × (start ≤ p)))
-closing_closed label start k Unseen is = let clash : Unseen ≡ Closed k = is in cc
-closing_closed label start k (Open q) is = elim (cases_lt q start) [
-  | inl lt ↦ let clash : Open q ≡ Closed k = sym (at_place label start q lt) ∙ is in cc
+closing_labelled : (label start k : ℕ) (m : Mark) → labelled_from label start m ≡ Labelled k → (m ≡ Labelled k) ⊎ ((k ≡ label) × ((p : ℕ) × (m ≡ Open p) × (start ≤ p)))
+closing_labelled label start k Unseen is = let clash : Unseen ≡ Labelled k = is in cc
+closing_labelled label start k (Open q) is = elim (cases_lt q start) [
+  | inl lt ↦ let clash : Open q ≡ Labelled k = sym (at_place label start q lt) ∙ is in cc
   | inr ge ↦ inr (label_is k label (sym is ∙ past_place label start q ge), (q, refl, ge))
 ]
-closing_closed label start k (Closed other) is = inl is
+closing_labelled label start k (Labelled other) is = inl is
 
 -- an edge of an open node that stays open
-closing_settled : (label start p : ℕ) (starts fewer : List ℕ) (m : Mark) → ((s : ℕ) → Contains fewer s → Contains starts s) → IsSettled starts p m → IsSettled fewer p (closed_from label start m)
+closing_settled : (label start p : ℕ) (starts fewer : List ℕ) (m : Mark) → ((s : ℕ) → Contains fewer s → Contains starts s) → IsSettled starts p m → IsSettled fewer p (labelled_from label start m)
 closing_settled label start p starts fewer Unseen sub h = h
 closing_settled label start p starts fewer (Open q) sub h = elim (cases_lt q start) [
   | inl lt ↦ subst (λ m. IsSettled fewer p m) (sym (at_place label start q lt)) (λ s in' lt. h s (sub s in') lt)
   | inr ge ↦ subst (λ m. IsSettled fewer p m) (sym (past_place label start q ge)) tt
 ]
-closing_settled label start p starts fewer (Closed other) sub h = tt
+closing_settled label start p starts fewer (Labelled other) sub h = tt
 
--- an edge of a node that was closed before
-closing_not_later : (label start k : ℕ) (m : Mark) → IsNotLater k m → IsNotLater k (closed_from label start m)
+-- an edge of a node that was labelled before
+closing_not_later : (label start k : ℕ) (m : Mark) → IsNotLater k m → IsNotLater k (labelled_from label start m)
 closing_not_later label start k Unseen h = h
 closing_not_later label start k (Open q) h = absurd h
-closing_not_later label start k (Closed other) h = h
+closing_not_later label start k (Labelled other) h = h
 
--- an edge of a node that is closed now
-closing_now : (label start p : ℕ) (starts : List ℕ) (m : Mark) → Contains starts start → start ≤ p → ((other : ℕ) → m ≡ Closed other → other < label) → IsSettled starts p m → IsNotLater label (closed_from label start m)
+-- an edge of a node that is labelled now
+closing_now : (label start p : ℕ) (starts : List ℕ) (m : Mark) → Contains starts start → start ≤ p → ((other : ℕ) → m ≡ Labelled other → other < label) → IsSettled starts p m → IsNotLater label (labelled_from label start m)
 closing_now label start p starts Unseen in' at below h = h
 closing_now label start p starts (Open q) in' at below h = elim (cases_lt q start) [
   | inl lt ↦ absurd (let far : p < start = h start in' lt in omega arith)
   | inr ge ↦ subst (λ m. IsNotLater label m) (sym (past_place label start q ge)) (let le : label ≤ label = omega arith in le)
 ]
-closing_now label start p starts (Closed other) in' at below h = let lt : other < label = below other refl in omega arith
+closing_now label start p starts (Labelled other) in' at below h = let lt : other < label = below other refl in omega arith
 
-shut_path : (marks after : List Mark) (path : List ℕ) (label start : ℕ) → start ≤ length path → IsPath marks path → ((v : ℕ) → mark_of after v ≡ closed_from label start (mark_of marks v)) → IsPath after (take start path)
+shut_path : (marks after : List Mark) (path : List ℕ) (label start : ℕ) → start ≤ length path → IsPath marks path → ((v : ℕ) → mark_of after v ≡ labelled_from label start (mark_of marks v)) → IsPath after (take start path)
 shut_path marks after path label start fits on each = record {
   place = λ v p is.
       let known : (mark_of marks v ≡ Open p) × (p < start) = closing_open label start p (mark_of marks v) (sym (each v) ∙ is) in
@@ -365,13 +365,13 @@ shut_path marks after path label start fits on each = record {
       (omega (arith, length-take-le start path fits, known.1), get_or-take start path p 0 known.1 ∙ at.1);
   mark = λ p p_in.
       let lt : p < start = omega (arith, length-take-le start path fits) in
-      ap (mark_of after) (get_or-take start path p 0 lt) ∙ each (get_or path p 0) ∙ ap (closed_from label start) (on.mark p (omega arith)) ∙ at_place label start p lt;
+      ap (mark_of after) (get_or-take start path p 0 lt) ∙ each (get_or path p 0) ∙ ap (labelled_from label start) (on.mark p (omega arith)) ∙ at_place label start p lt;
 }
 
 pub shut : (rows : List (List ℕ)) (marks after : List Mark) (path fewer : List ℕ) (pending : List (ℕ × ℕ)) (label start : ℕ)
     → IsSearch rows marks path (fewer ++ start ∷ []) pending label
     → ((p v : ℕ) → Contains pending (p, v) → p < start)
-    → ((v : ℕ) → mark_of after v ≡ closed_from label start (mark_of marks v))
+    → ((v : ℕ) → mark_of after v ≡ labelled_from label start (mark_of marks v))
     → IsSearch rows after (take start path) fewer pending (label + 1)
 shut rows marks after path fewer pending label start keeps early each =
     let starts : List ℕ = fewer ++ start ∷ [] in
@@ -381,8 +381,8 @@ shut rows marks after path fewer pending label start keeps early each =
     let fits : start < length path = keeps.begins.below start here in
     let long : length (take start path) ≡ start = length-take-le start path (omega arith) in
     let stays : (p : ℕ) → p < start → get_or (take start path) p 0 ≡ get_or path p 0 = λ p lt. get_or-take start path p 0 lt in
-    let label_of : (u k : ℕ) → mark_of after u ≡ Closed k → (mark_of marks u ≡ Closed k) ⊎ ((k ≡ label) × ((p : ℕ) × (mark_of marks u ≡ Open p) × (start ≤ p)))
-    = λ u k is. closing_closed label start k (mark_of marks u) (sym (each u) ∙ is) in
+    let label_of : (u k : ℕ) → mark_of after u ≡ Labelled k → (mark_of marks u ≡ Labelled k) ⊎ ((k ≡ label) × ((p : ℕ) × (mark_of marks u ≡ Open p) × (start ≤ p)))
+    = λ u k is. closing_labelled label start k (mark_of marks u) (sym (each u) ∙ is) in
     record {
       on_path = shut_path marks after path label start (omega arith) keeps.on_path each;
       begins = record {
@@ -414,7 +414,7 @@ shut rows marks after path fewer pending label start keeps early each =
           | inl old ↦ closing_not_later label start k (mark_of marks v) (keeps.shut.edge u v k old target)
           | inr new ↦
               let at : (new.1.0 < length path) × (get_or path new.1.0 0 ≡ u) = keeps.on_path.place u new.1.0 new.1.1 in
-              subst (λ k. IsNotLater k (closed_from label start (mark_of marks v))) (sym new.0)
+              subst (λ k. IsNotLater k (labelled_from label start (mark_of marks v))) (sym new.0)
               (elim (keeps.edge new.1.0 v at.0 (subst (λ w. IsSuccessor rows w v) (sym at.1) target)) [
                 | inl pends ↦ absurd (let lt : new.1.0 < start = early new.1.0 v pends in omega (arith, new.1.2))
                 | inr settled ↦ closing_now label start new.1.0 starts (mark_of marks v) here new.1.2 (λ other is. keeps.shut.below v other is) settled

@@ -61,11 +61,11 @@ pub record IsShownCycle (names : List (List ℕ)) (imports : List ImportEdge) (s
 
 -- A repeated name is refused first, then an import of no module, and then a cycle. Want of memory may
 -- come at any time.
-abbrev pub IsRefused : List (List ℕ) → List ImportEdge → GraphError → Type 0
-IsRefused names imports (DuplicateModule name) = IsFirstRepeat names name
-IsRefused names imports (NoModule name place) = HasNoRepeat names × IsFirstUnknown names imports name place
-IsRefused names imports (ImportCycle shown) = HasNoRepeat names × IsShownCycle names imports shown
-IsRefused names imports (Memory reason) = Unit {0}
+abbrev pub IsOrderRefusal : List (List ℕ) → List ImportEdge → GraphError → Type 0
+IsOrderRefusal names imports (DuplicateModule name) = IsFirstRepeat names name
+IsOrderRefusal names imports (NoModule name place) = HasNoRepeat names × IsFirstUnknown names imports name place
+IsOrderRefusal names imports (ImportCycle shown) = HasNoRepeat names × IsShownCycle names imports shown
+IsOrderRefusal names imports (Memory reason) = Unit {0}
 
 -- a repeated name is refused
 abbrev pub IsRepeatRefused : List (List ℕ) → GraphError → Type 0

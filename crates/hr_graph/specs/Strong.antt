@@ -2,7 +2,7 @@
 use Rattle.std.specs.Prelude.{◌≡◌, ◌⊎◌, ◌+◌, ◌<◌, ◌≤◌, ℕ, List, [], ◌∷◌, length, take, map, replicate, cond, nat_lt, slice_index, slice_index_or, Contains, AllPairs}
 use Rattle.hr_graph.specs.Graph.{LeadsTo}
 use Rattle.hr_graph.specs.declared.strong.Mark.{Mark}
-use Rattle.hr_graph.specs.declared.strong.Mark.TheVariants.{Unseen, Open, Closed}
+use Rattle.hr_graph.specs.declared.strong.Mark.TheVariants.{Unseen, Open, Labelled}
 
 -- the row of u has v
 abbrev pub IsSuccessor : List (List ℕ) → ℕ → ℕ → Type 0
@@ -41,46 +41,46 @@ pub record ArePending (rows : List (List ℕ)) (path : List ℕ) (pending : List
   pub edge : (p v : ℕ) → Contains pending (p, v) → (p < length path) × IsSuccessor rows (slice_index path p) v
   pub rise : AllPairs (λ e f. e.0 ≤ f.0) pending
 
--- the target of an edge of the node at place p is closed, or open and not behind the group of p
+-- the target of an edge of the node at place p is labelled, or open and not behind the group of p
 abbrev pub IsSettled : List ℕ → ℕ → Mark → Type 0
 IsSettled starts p Unseen = ⊥
 IsSettled starts p (Open q) = ComesBack starts p q
-IsSettled starts p (Closed label) = Unit {0}
+IsSettled starts p (Labelled label) = Unit {0}
 
 -- the component with the label has no edge to a later one
 abbrev pub IsNotLater : ℕ → Mark → Type 0
 IsNotLater label Unseen = ⊥
 IsNotLater label (Open q) = ⊥
-IsNotLater label (Closed other) = other ≤ label
+IsNotLater label (Labelled other) = other ≤ label
 
-pub record AreClosed (rows : List (List ℕ)) (marks : List Mark) (closed : ℕ) : Type 0 where
-  pub edge : (u v label : ℕ) → mark_of marks u ≡ Closed label → IsSuccessor rows u v → IsNotLater label (mark_of marks v)
-  pub way : (u v label : ℕ) → mark_of marks u ≡ Closed label → mark_of marks v ≡ Closed label → WayAlong rows u v
-  pub below : (u label : ℕ) → mark_of marks u ≡ Closed label → label < closed
+pub record AreLabelled (rows : List (List ℕ)) (marks : List Mark) (labelled : ℕ) : Type 0 where
+  pub edge : (u v label : ℕ) → mark_of marks u ≡ Labelled label → IsSuccessor rows u v → IsNotLater label (mark_of marks v)
+  pub way : (u v label : ℕ) → mark_of marks u ≡ Labelled label → mark_of marks v ≡ Labelled label → WayAlong rows u v
+  pub below : (u label : ℕ) → mark_of marks u ≡ Labelled label → label < labelled
 
 -- what the search keeps
-pub record IsSearch (rows : List (List ℕ)) (marks : List Mark) (path starts : List ℕ) (pending : List (ℕ × ℕ)) (closed : ℕ) : Type 0 where
+pub record IsSearch (rows : List (List ℕ)) (marks : List Mark) (path starts : List ℕ) (pending : List (ℕ × ℕ)) (labelled : ℕ) : Type 0 where
   pub on_path : IsPath marks path
   pub begins : AreStarts path starts
   pub way : (p q : ℕ) → p < length path → q < length path → ComesBack starts p q → WayAlong rows (slice_index path p) (slice_index path q)
   pub waits : ArePending rows path pending
   pub edge : (p v : ℕ) → p < length path → IsSuccessor rows (slice_index path p) v → Contains pending (p, v) ⊎ IsSettled starts p (mark_of marks v)
-  pub shut : AreClosed rows marks closed
+  pub shut : AreLabelled rows marks labelled
 
 -- the same, but for the edges to one node, of which one is being followed
-pub record IsSearchBut (spare : ℕ) (rows : List (List ℕ)) (marks : List Mark) (path starts : List ℕ) (pending : List (ℕ × ℕ)) (closed : ℕ) : Type 0 where
+pub record IsSearchBut (spare : ℕ) (rows : List (List ℕ)) (marks : List Mark) (path starts : List ℕ) (pending : List (ℕ × ℕ)) (labelled : ℕ) : Type 0 where
   pub on_path : IsPath marks path
   pub begins : AreStarts path starts
   pub way : (p q : ℕ) → p < length path → q < length path → ComesBack starts p q → WayAlong rows (slice_index path p) (slice_index path q)
   pub waits : ArePending rows path pending
   pub edge : (p v : ℕ) → p < length path → IsSuccessor rows (slice_index path p) v → (Contains pending (p, v) ⊎ IsSettled starts p (mark_of marks v)) ⊎ (v ≡ spare)
-  pub shut : AreClosed rows marks closed
+  pub shut : AreLabelled rows marks labelled
 
--- a mark after the nodes from the place on are closed
-abbrev pub closed_from : ℕ → ℕ → Mark → Mark
-closed_from label start Unseen = Unseen
-closed_from label start (Open p) = cond (nat_lt p start) (Open p) (Closed label)
-closed_from label start (Closed other) = Closed other
+-- a mark after the nodes from the place on are labelled
+abbrev pub labelled_from : ℕ → ℕ → Mark → Mark
+labelled_from label start Unseen = Unseen
+labelled_from label start (Open p) = cond (nat_lt p start) (Open p) (Labelled label)
+labelled_from label start (Labelled other) = Labelled other
 
 -- the groups that begin up to the place are left
 pub record Joined (before after : List ℕ) (place : ℕ) : Type 0 where
@@ -98,7 +98,7 @@ weigh [] marks = 0
 weigh (w ∷ ws) [] = 0
 weigh (w ∷ ws) (Unseen ∷ marks) = w + weigh ws marks
 weigh (w ∷ ws) (Open p ∷ marks) = weigh ws marks
-weigh (w ∷ ws) (Closed label ∷ marks) = weigh ws marks
+weigh (w ∷ ws) (Labelled label ∷ marks) = weigh ws marks
 
 -- one for each node
 abbrev pub ones : List (List ℕ) → List ℕ
@@ -108,9 +108,9 @@ ones rows = map (λ row. 1) rows
 abbrev pub loads : List (List ℕ) → List ℕ
 loads rows = map (λ row. length row + 2) rows
 
--- there is a number for each component that is still to be closed
+-- there is a number for each component that is still to be labelled
 abbrev pub HasRoom : List (List ℕ) → List Mark → List ℕ → ℕ → Type 0
-HasRoom rows marks starts closed = closed + length starts + weigh (ones rows) marks ≤ length rows
+HasRoom rows marks starts labelled = labelled + length starts + weigh (ones rows) marks ≤ length rows
 
 -- what is left to do
 abbrev pub work : List (List ℕ) → List Mark → List ℕ → List (ℕ × ℕ) → ℕ
@@ -121,16 +121,16 @@ abbrev pub HasTargets : List (List ℕ) → Type 0
 HasTargets rows = (u v : ℕ) → IsSuccessor rows u v → v < length rows
 
 -- a search that is sound, with room
-pub record IsSound (rows : List (List ℕ)) (marks : List Mark) (path starts : List ℕ) (pending : List (ℕ × ℕ)) (closed : ℕ) : Type 0 where
-  pub search : IsSearch rows marks path starts pending closed
+pub record IsSound (rows : List (List ℕ)) (marks : List Mark) (path starts : List ℕ) (pending : List (ℕ × ℕ)) (labelled : ℕ) : Type 0 where
+  pub search : IsSearch rows marks path starts pending labelled
   pub long : length marks ≡ length rows
-  pub room : HasRoom rows marks starts closed
+  pub room : HasRoom rows marks starts labelled
 
 -- the same while an edge of the last group to the target is followed
-pub record IsFollowing (rows : List (List ℕ)) (marks : List Mark) (path starts : List ℕ) (pending : List (ℕ × ℕ)) (closed target : ℕ) : Type 0 where
-  pub search : IsSearchBut target rows marks path starts pending closed
+pub record IsFollowing (rows : List (List ℕ)) (marks : List Mark) (path starts : List ℕ) (pending : List (ℕ × ℕ)) (labelled target : ℕ) : Type 0 where
+  pub search : IsSearchBut target rows marks path starts pending labelled
   pub long : length marks ≡ length rows
-  pub room : HasRoom rows marks starts closed
+  pub room : HasRoom rows marks starts labelled
   pub place : ℕ
   pub within : place < length path
   pub edge : IsSuccessor rows (slice_index path place) target
@@ -140,7 +140,7 @@ pub record IsFollowing (rows : List (List ℕ)) (marks : List Mark) (path starts
 abbrev pub IsSeen : Mark → Type 0
 IsSeen Unseen = ⊥
 IsSeen (Open p) = Unit {0}
-IsSeen (Closed label) = Unit {0}
+IsSeen (Labelled label) = Unit {0}
 
 -- what was seen stays so
 abbrev pub KeepsSeen : List Mark → List Mark → Type 0
@@ -150,7 +150,7 @@ KeepsSeen before after = (v : ℕ) → IsSeen (mark_of before v) → IsSeen (mar
 abbrev pub label_in : Mark → ℕ
 label_in Unseen = 0
 label_in (Open p) = 0
-label_in (Closed label) = label
+label_in (Labelled label) = label
 
 -- Numbers for the strong components: no edge leads to a greater one, and nodes with one number reach
 -- each other. So two nodes that reach each other have one number.
@@ -161,9 +161,9 @@ pub record AreLabels (nodes : ℕ) (edges : List (ℕ × ℕ)) (labels : List �
   pub way : (u v : ℕ) → u < nodes → v < nodes → slice_index labels u ≡ slice_index labels v → LeadsTo edges u v
 
 -- a search that has seen nothing
-pub record IsFresh (nodes : ℕ) (marks : List Mark) (path starts : List ℕ) (pending : List (ℕ × ℕ)) (closed : ℕ) : Type 0 where
+pub record IsFresh (nodes : ℕ) (marks : List Mark) (path starts : List ℕ) (pending : List (ℕ × ℕ)) (labelled : ℕ) : Type 0 where
   pub marks_are : marks ≡ replicate nodes Unseen
   pub path_is : path ≡ []
   pub starts_are : starts ≡ []
   pub pending_is : pending ≡ []
-  pub closed_is : closed ≡ 0
+  pub labelled_is : labelled ≡ 0

@@ -1,7 +1,7 @@
 ghost use Rattle.std.specs.Prelude.{◌<◌, length, All, IfOk, IfErr, IfNone, IfSome};
 ghost use Rattle.hr_graph.specs.Graph.{IsWithin};
 ghost use Rattle.hr_graph.specs.Cycle.{IsNumbered};
-ghost use Rattle.hr_graph.specs.Modules.{IsReadingOrder, IsRefused, ShowsCycle};
+ghost use Rattle.hr_graph.specs.Modules.{IsReadingOrder, IsOrderRefusal, ShowsCycle};
 
 use crate::cycle::{first_on_cycle, least_cycle};
 use crate::module_names::{edges, places, shown};
@@ -42,7 +42,7 @@ pub fn order(
 ) -> Result<Vec<usize>, GraphError>
     requires { All (λ one. one.from < length names.now) imports.now }
     ensures order { IfOk result (λ order. IsReadingOrder names.now imports.now order.items) }
-    ensures refused { IfErr result (IsRefused names.now imports.now) }
+    ensures refused { IfErr result (IsOrderRefusal names.now imports.now) }
 {
     let places = places(alloc, names)?;
     let edges = edges(alloc, names, &places, imports)?;

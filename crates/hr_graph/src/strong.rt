@@ -1,10 +1,10 @@
 //! Strong components by the path of components: the open nodes form a path of groups, in which each
 //! group's nodes reach each other and each group reaches the next. An edge back into the path joins
-//! the groups from there on; a group with no edge left is a component, and is closed.
+//! the groups from there on; a group with no edge left is a component, and is labelled.
 ghost use Rattle.std.specs.Prelude.{◌≡◌, ◌+◌, ◌<◌, ◌≤◌, ◌++◌, ◌∷◌, ◌↔◌, ℕ, [], length, take, set, map, IfNone, IfSome, IfOk, OnOk, IsTrue, Contains, slice_index_or, vec_len};
 ghost use Rattle.std.specs.Bool.{MatchBool};
 ghost use Rattle.hr_graph.specs.Graph.{IsWithin};
-ghost use Rattle.hr_graph.specs.Strong.{IsPath, IsSound, IsFollowing, Joined, AreEarly, HasTargets, closed_from, mark_of, waiting, work, IsSeen, KeepsSeen, label_in, AreLabels, IsFresh};
+ghost use Rattle.hr_graph.specs.Strong.{IsPath, IsSound, IsFollowing, Joined, AreEarly, HasTargets, labelled_from, mark_of, waiting, work, IsSeen, KeepsSeen, label_in, AreLabels, IsFresh};
 
 use crate::rows::successors;
 use hr_base::Seq;
@@ -16,8 +16,8 @@ pub(crate) enum Mark {
     Unseen,
     /// On the path, at this place.
     Open(usize),
-    /// In the component that was closed as this one, from 0.
-    Closed(usize),
+    /// In the component that was labelled as this one, from 0.
+    Labelled(usize),
 }
 
 #[derive(Drop)]
@@ -29,7 +29,7 @@ pub(crate) struct Search {
     starts: Vec<usize>,
     /// Edges of open nodes that are still to be followed: the place of the node, and the target.
     pending: Vec<(usize, usize)>,
-    closed: usize,
+    labelled: usize,
 }
 
 /// Puts off the edges of the node at this place.
@@ -71,27 +71,27 @@ fn join(starts: &mut Vec<usize>, place: usize)
 /// Closes the nodes of the path from this place on.
 fn shut(marks: &mut Vec<Mark>, path: &mut Vec<usize>, start: usize, label: usize)
     requires { IsPath marks.old.items path.old.items }
-    ensures marks { (v : ℕ) → mark_of marks.new.items v ≡ closed_from label start (mark_of marks.old.items v) }
+    ensures marks { (v : ℕ) → mark_of marks.new.items v ≡ labelled_from label start (mark_of marks.old.items v) }
     ensures length { vec_len marks.new ≡ vec_len marks.old }
     ensures path { path.new.items ≡ take start path.old.items }
 {
     while path.len() > start {
         if let Some(node) = path.pop() {
-            marks[node] = Mark::Closed(label);
+            marks[node] = Mark::Labelled(label);
         }
     }
 }
 
 impl Search {
     fn new(alloc: Global, nodes: usize) -> Result<Search, AllocError>
-        ensures { IfOk result (λ s. IsFresh nodes s.marks.items s.path.items s.starts.items s.pending.items s.closed) }
+        ensures { IfOk result (λ s. IsFresh nodes s.marks.items s.path.items s.starts.items s.pending.items s.labelled) }
     {
         Ok(Search {
             marks: vec![in alloc; Mark::Unseen; nodes]?,
             path: Vec::new(alloc),
             starts: Vec::new(alloc),
             pending: Vec::new(alloc),
-            closed: 0,
+            labelled: 0,
         })
     }
 
@@ -102,7 +102,7 @@ impl Search {
         ensures path { OnOk result (self.new.path.items ≡ self.old.path.items ++ node ∷ []) }
         ensures starts { OnOk result (self.new.starts.items ≡ self.old.starts.items ++ length self.old.path.items ∷ []) }
         ensures pending { OnOk result (self.new.pending.items ≡ self.old.pending.items ++ waiting (length self.old.path.items) row.now) }
-        ensures closed { self.new.closed ≡ self.old.closed }
+        ensures labelled { self.new.labelled ≡ self.old.labelled }
     {
         let place = self.path.len();
         self.path.push(node)?;
@@ -113,9 +113,9 @@ impl Search {
 
     /// Follows an edge of the last group.
     fn follow(&mut self, rows: &[Seq<usize>], target: usize) -> Result<(), AllocError>
-        requires follows { IsFollowing rows.now self.old.marks.items self.old.path.items self.old.starts.items self.old.pending.items self.old.closed target }
+        requires follows { IsFollowing rows.now self.old.marks.items self.old.path.items self.old.starts.items self.old.pending.items self.old.labelled target }
         requires within { target < length rows.now }
-        ensures sound { OnOk result (IsSound rows.now self.new.marks.items self.new.path.items self.new.starts.items self.new.pending.items self.new.closed) }
+        ensures sound { OnOk result (IsSound rows.now self.new.marks.items self.new.path.items self.new.starts.items self.new.pending.items self.new.labelled) }
         ensures seen { OnOk result (KeepsSeen self.old.marks.items self.new.marks.items) }
         ensures less { OnOk result (work rows.now self.new.marks.items self.new.starts.items self.new.pending.items ≤ work rows.now self.old.marks.items self.old.starts.items self.old.pending.items) }
     {
@@ -128,15 +128,15 @@ impl Search {
                 join(&mut self.starts, place);
                 Ok(())
             }
-            Mark::Closed(_) => Ok(()),
+            Mark::Labelled(_) => Ok(()),
         }
     }
 
     /// Goes on until the path is empty.
     fn explore(&mut self, rows: &[Seq<usize>]) -> Result<(), AllocError>
-        requires sound { IsSound rows.now self.old.marks.items self.old.path.items self.old.starts.items self.old.pending.items self.old.closed }
+        requires sound { IsSound rows.now self.old.marks.items self.old.path.items self.old.starts.items self.old.pending.items self.old.labelled }
         requires targets { HasTargets rows.now }
-        ensures sound { OnOk result (IsSound rows.now self.new.marks.items self.new.path.items self.new.starts.items self.new.pending.items self.new.closed) }
+        ensures sound { OnOk result (IsSound rows.now self.new.marks.items self.new.path.items self.new.starts.items self.new.pending.items self.new.labelled) }
         ensures seen { OnOk result (KeepsSeen self.old.marks.items self.new.marks.items) }
         ensures empty { OnOk result (self.new.starts.items ≡ []) }
     {
@@ -145,8 +145,8 @@ impl Search {
                 Some(target) => self.follow(rows, target)?,
                 None => {
                     self.starts.pop();
-                    shut(&mut self.marks, &mut self.path, start, self.closed);
-                    self.closed += 1;
+                    shut(&mut self.marks, &mut self.path, start, self.labelled);
+                    self.labelled += 1;
                 }
             }
         }
@@ -155,11 +155,11 @@ impl Search {
 
     /// Closes the component of a node, and what it leads to.
     fn visit(&mut self, rows: &[Seq<usize>], root: usize) -> Result<(), AllocError>
-        requires sound { IsSound rows.now self.old.marks.items self.old.path.items self.old.starts.items self.old.pending.items self.old.closed }
+        requires sound { IsSound rows.now self.old.marks.items self.old.path.items self.old.starts.items self.old.pending.items self.old.labelled }
         requires empty { self.old.starts.items ≡ [] }
         requires targets { HasTargets rows.now }
         requires within { root < length rows.now }
-        ensures sound { OnOk result (IsSound rows.now self.new.marks.items self.new.path.items self.new.starts.items self.new.pending.items self.new.closed) }
+        ensures sound { OnOk result (IsSound rows.now self.new.marks.items self.new.path.items self.new.starts.items self.new.pending.items self.new.labelled) }
         ensures empty { OnOk result (self.new.starts.items ≡ []) }
         ensures seen { OnOk result (KeepsSeen self.old.marks.items self.new.marks.items) }
         ensures root { OnOk result (IsSeen (mark_of self.new.marks.items root)) }
@@ -186,7 +186,7 @@ fn label_of(mark: Mark) -> usize
     ensures { result ≡ label_in mark }
 {
     match mark {
-        Mark::Closed(label) => label,
+        Mark::Labelled(label) => label,
         _ => 0,
     }
 }

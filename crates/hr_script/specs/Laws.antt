@@ -27,10 +27,10 @@ pub record IsFirstBad (bytes : List ℕ) (number : ℕ) : Type 0 where
   pub bad : IsLine line → ⊥
 
 -- why bytes are refused; want of memory may come at any time
-abbrev pub IsRefused : List ℕ → ScriptError → Type 0
-IsRefused bytes (BadLine number) = IsFirstBad bytes number
-IsRefused bytes TooManySteps = (cs : List Command) × Script bytes cs × (step_limit < length cs)
-IsRefused bytes (Memory reason) = Unit {0}
+abbrev pub IsScriptRefusal : List ℕ → ScriptError → Type 0
+IsScriptRefusal bytes (BadLine number) = IsFirstBad bytes number
+IsScriptRefusal bytes TooManySteps = (cs : List Command) × Script bytes cs × (step_limit < length cs)
+IsScriptRefusal bytes (Memory reason) = Unit {0}
 
 abbrev pub IsMemory : ScriptError → Type 0
 IsMemory (BadLine number) = ⊥

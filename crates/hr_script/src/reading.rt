@@ -1,6 +1,6 @@
 ghost use Rattle.std.specs.Prelude.{◌≡◌, IfErr, IfOk, MatchResult};
 ghost use Rattle.hr_script.specs.Language.{Script};
-ghost use Rattle.hr_script.specs.Laws.{IsMemory, IsParsed, IsRefused};
+ghost use Rattle.hr_script.specs.Laws.{IsMemory, IsParsed, IsScriptRefusal};
 ghost use Rattle.hr_script.specs.Progress.{Adds, IsLineRefused};
 
 use crate::lines::{is_skipped, next_line};
@@ -16,7 +16,7 @@ const STEP_LIMIT: usize = 1000;
 /// commands are. Want of memory is the answer too where no `u32` counts the lines.
 pub fn parse_script(alloc: Global, bytes: &[u8]) -> Result<Seq<Command>, ScriptError>
     ensures parsed { IfOk result (IsParsed bytes.now) }
-    ensures refused { IfErr result (IsRefused bytes.now) }
+    ensures refused { IfErr result (IsScriptRefusal bytes.now) }
     ensures only { (commands : _) → IsParsed bytes.now commands → MatchResult result (λ found. found ≡ commands) IsMemory }
 {
     match commands_of(alloc, bytes) {

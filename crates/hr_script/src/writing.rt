@@ -63,7 +63,7 @@ fn add_at(
 ) -> Result<(), AllocError>
     ensures { OnOk result (bytes.new.items ≡ bytes.old.items ++ join_with_byte 32 (verb_word verb ∷ module_name.now ∷ pos_word pos ∷ [])) }
 {
-    let place = place_of(alloc, pos)?;
+    let place = shown_pos(alloc, pos)?;
     add_words(bytes, verb, &[module_name.as_slice(), place.as_bytes()])
 }
 
@@ -77,7 +77,7 @@ fn add_with_text(
 ) -> Result<(), AllocError>
     ensures { OnOk result (bytes.new.items ≡ bytes.old.items ++ join_with_byte 32 (verb_word verb ∷ module_name.now ∷ pos_word pos ∷ text.now ∷ [])) }
 {
-    let place = place_of(alloc, pos)?;
+    let place = shown_pos(alloc, pos)?;
     add_words(
         bytes,
         verb,
@@ -86,7 +86,7 @@ fn add_with_text(
 }
 
 /// A position as it is written.
-fn place_of(alloc: Global, pos: Pos) -> Result<String, AllocError>
+fn shown_pos(alloc: Global, pos: Pos) -> Result<String, AllocError>
     ensures { IfOk result (λ word. string_bytes word ≡ pos_word pos) }
 {
     let Pos { line, col } = pos;

@@ -11,5 +11,5 @@ explore-requires-clause-sound c =
     let is : mark_of c.args.self.now.marks.items c.args.root ≡ Unseen
     = read_mark c.args.rows.now c.args.self.now.marks.items c.args.root c.index.result.now Unseen c.requires.sound.long c.requires.within c.index.ensures c.if-not-is_unseen.ensures in
     sound_same _ _ _ _ _ _ _ _ _ _ e.marks e.path e.starts
-    (row_read c.args.rows.now c.args.root _ c.index-rows-root.result _ _ _ c.requires.within c.index-rows-root.is c.as_slice.ensures e.pending) e.closed
+    (row_read c.args.rows.now c.args.root _ c.index-rows-root.result _ _ _ c.requires.within c.index-rows-root.is c.as_slice.ensures e.pending) e.labelled
     (enter_root _ _ _ _ _ _ c.args.root c.requires.sound c.requires.empty c.requires.within is)
