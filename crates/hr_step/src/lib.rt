@@ -1,0 +1,13 @@
+//! The comparison that ends every step: what was read of the written text, held against the draft.
+#![tactic(auto)]
+
+mod blocks;
+mod kept;
+mod lexemes;
+mod names;
+mod trivia;
+
+pub use blocks::are_blocks_kept;
+pub use lexemes::are_lexemes_read;
+pub use names::{Found, NameMap, Rebound, first_rebound};
+pub use trivia::{does_trivia_stay, may_stand_for};

@@ -1,0 +1,123 @@
+//! Whether blanks and comments stay.
+ghost use Rattle.std.specs.Prelude.{◌≡◌, ◌≤◌, ◌<◌, length};
+ghost use Rattle.hr_step.specs.Trivia.{are_blanks, behind_newline, front_behind, front_len, is_blank, is_one_blank_more, may_be_indented, may_stand_for};
+
+use crate::kept::kept_number;
+use hr_base::Item;
+use hr_draft::Drafted;
+use hr_rules::has_newline;
+
+/// Whether what stands before each kept lexeme stays, where the lexeme before it is the one that it had.
+pub fn does_trivia_stay(old: &[Item], draft: &[Drafted], new: &[Item]) -> bool {
+    let mut follows = Some(0);
+    for (drafted, item) in draft.iter().zip(new.iter()) {
+        let number = kept_number(drafted);
+        if number.is_some() && number == follows && !stays_at(old, number, item) {
+            return false;
+        }
+        follows = number.map(|number| number.saturating_add(1));
+    }
+    true
+}
+
+/// Whether the trivia of the old lexeme of the number stays before the new one.
+fn stays_at(old: &[Item], number: Option<usize>, new: &Item) -> bool {
+    match number.and_then(|number| old.get(number)) {
+        Some(item) => may_stand_for(
+            item.trivia.as_slice(),
+            new.trivia.as_slice(),
+            number == Some(0),
+        ),
+        None => false,
+    }
+}
+
+/// Whether the new trivia stays as the old one: byte for byte, or with one blank more in front; before a lexeme that
+/// is first on its line the blanks of its own line may change, or become a newline and blanks.
+pub fn may_stand_for(old: &[u8], new: &[u8], is_first: bool) -> bool
+    ensures { result ≡ may_stand_for old.now new.now is_first }
+{
+    if old == new {
+        return true;
+    }
+    if is_one_blank_more(old, new) {
+        return true;
+    }
+    if is_first {
+        return may_be_indented(old, new);
+    }
+    has_newline(old) && may_be_indented(old, new)
+}
+
+/// Whether the new bytes are the old ones behind a blank.
+fn is_one_blank_more(old: &[u8], new: &[u8]) -> bool
+    ensures { result ≡ is_one_blank_more old.now new.now }
+{
+    match new {
+        [first, rest @ ..] => *first == b' ' && rest == old,
+        [] => false,
+    }
+}
+
+/// Whether the new trivia is the old one but for the blanks that it ends with, before which a newline may stand.
+fn may_be_indented(old: &[u8], new: &[u8]) -> bool
+    ensures { result ≡ may_be_indented old.now new.now }
+{
+    let (front, _) = old.split_at(front_len(old));
+    if new.len() < front.len() {
+        return false;
+    }
+    let (begin, rest) = new.split_at(front.len());
+    begin == front && are_blanks(behind_newline(rest))
+}
+
+/// The number of bytes before the blanks that the bytes end with.
+fn front_len(bytes: &[u8]) -> usize
+    ensures value { result ≡ front_len bytes.now }
+    ensures within { result ≤ length bytes.now }
+{
+    let mut front = 0;
+    for (place, byte) in bytes.iter().enumerate() {
+        front = front_behind(front, place, *byte);
+    }
+    front
+}
+
+/// Where the front ends, behind one byte more at the place.
+fn front_behind(front: usize, place: usize, byte: u8) -> usize
+    requires { place < usize.MAX }
+    ensures { result ≡ front_behind front place byte }
+{
+    if is_blank(byte) { front } else { place + 1 }
+}
+
+fn are_blanks(bytes: &[u8]) -> bool
+    ensures { result ≡ are_blanks bytes.now }
+{
+    for byte in bytes {
+        if !is_blank(*byte) {
+            return false;
+        }
+    }
+    true
+}
+
+/// Whether the byte is a blank that ends no line: a space, a tab or a vertical tab.
+fn is_blank(byte: u8) -> bool
+    ensures { result ≡ is_blank byte }
+{
+    byte == b' ' || byte == b'\t' || byte == 0x0B
+}
+
+/// The bytes behind the newline that they begin with, if they begin with one.
+fn behind_newline(bytes: &[u8]) -> &[u8]
+    ensures { result.now ≡ behind_newline bytes.now }
+{
+    match bytes {
+        [13, 10, rest @ ..] => rest,
+        [13, rest @ ..] => rest,
+        [10, rest @ ..] => rest,
+        [12, rest @ ..] => rest,
+        _ => bytes,
+    }
+}
