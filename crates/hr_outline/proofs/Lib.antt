@@ -1,0 +1,4 @@
+pub mod TypeEvents
+pub mod PatternEvents
+pub mod ExpressionEvents
+pub mod Behind

@@ -1,0 +1,17 @@
+use crate::Outline;
+use crate::expressions::read_block;
+use crate::lists::read_header;
+use hr_tree::Module;
+use std::alloc::{AllocError, Global};
+
+/// The lexemes of the module with their roles, and the regions that are entered.
+pub fn outline_of(alloc: Global, tree: &Module) -> Result<Outline<'_>, AllocError> {
+    let mut out = Outline::new(alloc);
+    read_module(tree, &mut out)?;
+    Ok(out)
+}
+
+fn read_module<'a>(tree: &'a Module, out: &mut Outline<'a>) -> Result<(), AllocError> {
+    read_header(&tree.header, out)?;
+    read_block(&tree.body, out)
+}
