@@ -1,0 +1,5 @@
+pub mod Fronts
+pub mod Kinds
+pub mod Lists
+pub mod Nodes
+pub mod Patterns

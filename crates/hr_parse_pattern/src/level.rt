@@ -1,0 +1,359 @@
+//! What stands behind one of the parentheses that open at the beginning of a declaration, up to the next one.
+ghost use Rattle.std.specs.Prelude.{IfOk};
+ghost use Rattle.hr_parse_pattern.specs.Fronts.{ReadsOwn};
+
+use crate::bound::{
+    Signed, bound_at, minus_in_parenthesis, symbol_constructor, variable_name, variable_symbol,
+};
+use crate::front::{Left, Level, Reached};
+use crate::nodes::{infix, variable_pattern};
+use crate::operators::{constructor_symbol, expect_constructor, quoted_constructor};
+use crate::reading::{arguments, constructor_with, negative, operand, pattern};
+use crate::starts::{begins_atomic, begins_pattern, is_symbol};
+use crate::take::below;
+use crate::{Many, Operands, Part};
+use hr_base::{Item, Seq};
+use hr_layout::Cursor;
+use hr_parse_lexeme::{
+    Held, Kind, Mark, Notes, Sort, Stop, accept, commas, expect, expect_sort, kind_ahead, nest,
+};
+use hr_tree::{Constructor, LeftHead, Operator, Pat, Variable};
+use std::alloc::Global;
+
+/// The parentheses that open, and the first variable or operand behind them.
+pub(crate) fn first(
+    alloc: Global,
+    cursor: &mut Cursor,
+    notes: &mut Notes,
+    depth: u32,
+) -> Result<Level, Stop> {
+    let mut list = Vec::new(alloc);
+    while let Some(left) = accept(cursor, Mark::LeftParen) {
+        match kind_ahead(cursor) {
+            Kind::RightParen | Kind::Comma => {
+                let reached = unnamed(alloc, cursor, notes, depth, left)?;
+                return Ok(level_of(list, reached));
+            }
+            Kind::Minus => return behind_minus(alloc, cursor, notes, depth, list, left),
+            kind if is_symbol(kind) => {
+                let reached = behind_symbol(alloc, cursor, notes, depth, left, kind)?;
+                return Ok(level_of(list, reached));
+            }
+            _ => list.push(left)?,
+        }
+    }
+    let reached = unbracketed(alloc, cursor, notes, depth)?;
+    Ok(level_of(list, reached))
+}
+
+fn level_of(list: Vec<Item>, reached: Reached) -> Level {
+    Level {
+        opens: Seq { list },
+        reached,
+    }
+}
+
+/// A variable or an operand that no parenthesis begins.
+fn unbracketed(
+    alloc: Global,
+    cursor: &mut Cursor,
+    notes: &mut Notes,
+    depth: u32,
+) -> Result<Reached, Stop> {
+    match kind_ahead(cursor) {
+        Kind::Variable => {
+            let bound = variable_name(cursor)?;
+            variable(alloc, cursor, notes, depth, bound)
+        }
+        kind if begins_pattern(kind) => {
+            let part = operand(alloc, cursor, notes, depth)?;
+            Ok(Reached::Pattern(part))
+        }
+        _ => Err(Stop::Syntax),
+    }
+}
+
+/// The variable, or what it is bound to, which is a pattern.
+fn variable(
+    alloc: Global,
+    cursor: &mut Cursor,
+    notes: &mut Notes,
+    depth: u32,
+    bound: Held<Variable>,
+) -> Result<Reached, Stop> {
+    notes.pattern(cursor.pos());
+    if kind_ahead(cursor) != Kind::At {
+        return Ok(Reached::Variable(bound));
+    }
+    nest(depth, 1)?;
+    let part = bound_at(alloc, cursor, notes, depth, bound.take())?;
+    notes.pattern(cursor.pos());
+    Ok(Reached::Pattern(part))
+}
+
+/// A constructor with its arguments.
+fn constructor(
+    alloc: Global,
+    cursor: &mut Cursor,
+    notes: &mut Notes,
+    depth: u32,
+    named: Held<Constructor>,
+) -> Result<Reached, Stop> {
+    notes.pattern(cursor.pos());
+    let part = constructor_with(alloc, cursor, notes, depth, named)?;
+    Ok(Reached::Pattern(part))
+}
+
+/// `()`, or the constructor of a tuple.
+fn unnamed(
+    alloc: Global,
+    cursor: &mut Cursor,
+    notes: &mut Notes,
+    depth: u32,
+    left: Item,
+) -> Result<Reached, Stop> {
+    nest(depth, 1)?;
+    if let Some(right) = accept(cursor, Mark::RightParen) {
+        let named = Held::new(Constructor::Unit(left, right));
+        return constructor(alloc, cursor, notes, depth, named);
+    }
+    let commas = commas(alloc, cursor)?;
+    let right = expect(cursor, Mark::RightParen)?;
+    let named = Held::new(Constructor::Tuple(left, commas, right));
+    constructor(alloc, cursor, notes, depth, named)
+}
+
+/// An operator in parentheses: a variable, or a constructor.
+fn behind_symbol(
+    alloc: Global,
+    cursor: &mut Cursor,
+    notes: &mut Notes,
+    depth: u32,
+    left: Item,
+    kind: Kind,
+) -> Result<Reached, Stop> {
+    match kind {
+        Kind::QualifiedVariableSymbol => Err(Stop::Syntax),
+        Kind::VariableSymbol => {
+            let bound = variable_symbol(cursor, left)?;
+            variable(alloc, cursor, notes, depth, bound)
+        }
+        _ => {
+            nest(depth, 1)?;
+            let named = symbol_constructor(cursor, left, kind)?;
+            constructor(alloc, cursor, notes, depth, named)
+        }
+    }
+}
+
+/// The minus in parentheses as a variable, or a parenthesis behind which a negative integer stands.
+fn behind_minus(
+    alloc: Global,
+    cursor: &mut Cursor,
+    notes: &mut Notes,
+    depth: u32,
+    opens: Vec<Item>,
+    left: Item,
+) -> Result<Level, Stop> {
+    let mut opens = opens;
+    match minus_in_parenthesis(cursor, left)? {
+        Signed::Variable(bound) => {
+            let reached = variable(alloc, cursor, notes, depth, bound)?;
+            Ok(level_of(opens, reached))
+        }
+        Signed::Number(left, minus) => {
+            if kind_ahead(cursor) != Kind::Integer {
+                return Err(Stop::Syntax);
+            }
+            nest(depth, 1)?;
+            opens.push(left)?;
+            let part = negative(alloc, cursor, notes, minus)?;
+            let reached = Reached::Pattern(part);
+            Ok(level_of(opens, reached))
+        }
+    }
+}
+
+/// What stands behind the variable or the pattern, up to a closing parenthesis, a comma or the end. A left side goes
+/// on behind a closing parenthesis alone.
+pub(crate) fn behind(
+    alloc: Global,
+    cursor: &mut Cursor,
+    notes: &mut Notes,
+    depth: u32,
+    level: Level,
+) -> Result<Level, Stop> {
+    let Level { opens, reached } = level;
+    match reached {
+        Reached::Variable(bound) => {
+            let reached = behind_variable(alloc, cursor, notes, depth, bound)?;
+            Ok(Level { opens, reached })
+        }
+        Reached::Pattern(part) => {
+            let reached = behind_pattern(alloc, cursor, notes, depth, part)?;
+            Ok(Level { opens, reached })
+        }
+        Reached::Left(left) => Ok(Level {
+            opens,
+            reached: Reached::Left(left),
+        }),
+    }
+}
+
+/// Behind a variable a pattern makes it a function's name, and an operator makes it a pattern.
+fn behind_variable(
+    alloc: Global,
+    cursor: &mut Cursor,
+    notes: &mut Notes,
+    depth: u32,
+    bound: Held<Variable>,
+) -> Result<Reached, Stop> {
+    let kind = kind_ahead(cursor);
+    if begins_atomic(kind) {
+        let Many { list, height } = arguments_of(alloc, cursor, notes, depth)?;
+        let head = LeftHead::Prefix(bound.take(), list);
+        return Ok(headed(alloc, head, height));
+    }
+    if !is_operator(kind) {
+        return Ok(Reached::Variable(bound));
+    }
+    nest(depth, 1)?;
+    let part = variable_pattern(alloc, bound.take())?;
+    behind_pattern(alloc, cursor, notes, depth, part)
+}
+
+/// Whether an operator of a pattern or of a left side begins so.
+fn is_operator(kind: Kind) -> bool {
+    constructor_symbol(kind) || matches!(kind, Kind::VariableSymbol | Kind::Minus | Kind::Backquote)
+}
+
+fn headed(alloc: Global, head: LeftHead, height: u32) -> Reached {
+    Reached::Left(Left {
+        head: Held::new(head),
+        closes: Seq {
+            list: Vec::new(alloc),
+        },
+        height,
+    })
+}
+
+/// One pattern or more.
+pub(crate) fn arguments_of(
+    alloc: Global,
+    cursor: &mut Cursor,
+    notes: &mut Notes,
+    depth: u32,
+) -> Result<Many<Pat>, Stop> {
+    let many = arguments(alloc, cursor, notes, depth, Many::new(alloc))?;
+    if many.list.len() == 0 {
+        return Err(Stop::Syntax);
+    }
+    Ok(many)
+}
+
+/// Behind an operand a constructor operator goes on with the pattern, and a variable operator makes a left side of
+/// it. Of an operator in backquotes the name decides.
+fn behind_pattern(
+    alloc: Global,
+    cursor: &mut Cursor,
+    notes: &mut Notes,
+    depth: u32,
+    part: Part<Pat>,
+) -> Result<Reached, Stop> {
+    let mut operands = Operands::new(alloc);
+    let mut last = part;
+    loop {
+        let kind = kind_ahead(cursor);
+        if !is_operator(kind) {
+            return pattern_of(alloc, depth, operands, last);
+        }
+        let own = own_operator(cursor, kind, depth, last.height)?;
+        match own {
+            Own::Variable(operator) => {
+                return infix_left(alloc, cursor, notes, depth, operands, last, operator);
+            }
+            Own::Constructor(operator) => {
+                operands.push(None, last, Some(operator))?;
+                last = operand(alloc, cursor, notes, below(depth))?;
+            }
+        }
+    }
+}
+
+/// The pattern of the operands.
+fn pattern_of(
+    alloc: Global,
+    depth: u32,
+    operands: Operands<Pat>,
+    last: Part<Pat>,
+) -> Result<Reached, Stop> {
+    let part = infix(alloc, operands, last)?;
+    nest(depth, part.height)?;
+    Ok(Reached::Pattern(part))
+}
+
+/// An operator behind an operand.
+#[derive(Drop)]
+pub(crate) enum Own {
+    Variable(Operator),
+    Constructor(Operator),
+}
+
+/// The operator of the kind behind an operand with so many levels. A constructor's makes a node of it.
+fn own_operator(cursor: &mut Cursor, kind: Kind, depth: u32, height: u32) -> Result<Own, Stop>
+    ensures { IfOk result (λ own. ReadsOwn own cursor.old cursor.new) }
+{
+    match kind {
+        Kind::Backquote => quoted(cursor, depth, height),
+        _ if constructor_symbol(kind) => {
+            nest(below(depth), height)?;
+            let symbol = expect_constructor(cursor, kind)?;
+            Ok(Own::Constructor(Operator::Symbol(symbol)))
+        }
+        _ => {
+            let symbol = expect_sort(cursor, Sort::VariableSymbol)?;
+            Ok(Own::Variable(Operator::Symbol(symbol)))
+        }
+    }
+}
+
+/// An operator in backquotes, whose name decides.
+fn quoted(cursor: &mut Cursor, depth: u32, height: u32) -> Result<Own, Stop>
+    ensures { IfOk result (λ own. ReadsOwn own cursor.old cursor.new) }
+{
+    let left = expect(cursor, Mark::Backquote)?;
+    match kind_ahead(cursor) {
+        Kind::Variable => {
+            let name = expect_sort(cursor, Sort::Variable)?;
+            let right = expect(cursor, Mark::Backquote)?;
+            Ok(Own::Variable(Operator::Quoted(left, name, right)))
+        }
+        Kind::Constructor | Kind::QualifiedConstructor => {
+            nest(below(depth), height)?;
+            let operator = quoted_constructor(cursor, left)?;
+            Ok(Own::Constructor(operator))
+        }
+        _ => Err(Stop::Syntax),
+    }
+}
+
+/// The second pattern of a left side with an operator, behind the first one's operands.
+fn infix_left(
+    alloc: Global,
+    cursor: &mut Cursor,
+    notes: &mut Notes,
+    depth: u32,
+    operands: Operands<Pat>,
+    last: Part<Pat>,
+    operator: Operator,
+) -> Result<Reached, Stop> {
+    let operator = Held::new(operator);
+    let first = infix(alloc, operands, last)?;
+    nest(depth, first.height)?;
+    let second = pattern(alloc, cursor, notes, depth)?;
+    let height = first.height.max(second.height);
+    let Part { tree: first, .. } = first;
+    let Part { tree: second, .. } = second;
+    let head = LeftHead::Infix(first.into_inner(), operator.take(), second.into_inner());
+    Ok(headed(alloc, head, height))
+}

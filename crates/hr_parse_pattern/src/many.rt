@@ -1,0 +1,71 @@
+//! Lists of trees, with the greatest number of their levels.
+ghost use Rattle.std.specs.Prelude.{◌≡◌, [], length, OnOk};
+ghost use Rattle.hr_parse_pattern.specs.Lists.{more_parts, more_trees};
+
+use crate::Part;
+use hr_base::Item;
+use hr_tree::Listed;
+use sqlite_items::Items as Children;
+use std::alloc::{AllocError, Global};
+
+/// Trees that stand one behind another.
+#[derive(Drop)]
+pub struct Many<T> {
+    pub list: Children<T>,
+    pub height: u32,
+}
+
+impl<T: Drop> Many<T> {
+    pub fn new(alloc: Global) -> Many<T>
+        ensures { result ≡ record { list = []; height = 0 } }
+    {
+        Many {
+            list: Children::new(alloc),
+            height: 0,
+        }
+    }
+
+    pub fn push(&mut self, part: Part<T>) -> Result<(), AllocError>
+        ensures { OnOk result (self.new ≡ more_trees self.old part) }
+    {
+        let Part { tree, height } = part;
+        self.height = self.height.max(height);
+        self.list.push(tree.into_inner())
+    }
+}
+
+/// Trees with separators between them.
+#[derive(Drop)]
+pub struct Parts<T> {
+    pub list: Children<Listed<T>>,
+    pub height: u32,
+}
+
+impl<T: Drop> Parts<T> {
+    pub fn new(alloc: Global) -> Parts<T>
+        ensures { result ≡ record { list = []; height = 0 } }
+    {
+        Parts {
+            list: Children::new(alloc),
+            height: 0,
+        }
+    }
+
+    pub fn len(&self) -> usize
+        ensures { result ≡ length self.now.list }
+    {
+        self.list.len()
+    }
+
+    /// One more, with the separator behind it; the last one has none.
+    pub fn push(&mut self, part: Part<T>, separator: Option<Item>) -> Result<(), AllocError>
+        ensures { OnOk result (self.new ≡ more_parts self.old part separator) }
+    {
+        let Part { tree, height } = part;
+        self.height = self.height.max(height);
+        self.list.push(Listed {
+            part: tree.into_inner(),
+            separator,
+        })
+    }
+}
