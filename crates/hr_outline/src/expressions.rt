@@ -1,4 +1,10 @@
 //! Expressions, and the declarations and alternatives that stand in them. What calls itself is here alone.
+ghost use Rattle.std.specs.Prelude.{◌≡◌, ◌∷◌, [], ◌++◌, OnOk, fold};
+ghost use Rattle.std.specs.List.{flat_map};
+ghost use Rattle.hr_scope_rules.specs.Events.{after, Event, plain};
+ghost use Rattle.hr_scope_rules.specs.Phrases.{field_events, listed_events, sequence_events};
+ghost use Rattle.hr_scope_rules.specs.Outline.{all_left, alt_events, alternatives_events, block_events, body_events, declared_of, exp_events, qualified_of, qualifiers_events, where_events};
+ghost use Rattle.hr_outline.specs.Seen.{seen};
 
 use crate::Outline;
 use crate::declarations::{
@@ -22,7 +28,10 @@ use hr_tree::{Alt, Block, Body, Decl, Exp, Field, Listed, Operand, Piece, Qualif
 use std::alloc::AllocError;
 
 #[cycle(expressions)]
-fn read_exp<'a>(exp: &'a Exp, out: &mut Outline<'a>) -> Result<(), AllocError> {
+#[tactic(auto, using(crate::proofs::ExpressionEvents::exp_read))]
+fn read_exp<'a>(exp: &'a Exp, out: &mut Outline<'a>) -> Result<(), AllocError>
+    ensures { OnOk result (seen out.new ≡ fold after (seen out.old) (exp_events exp.now)) }
+{
     match exp {
         Exp::Variable(variable) => read_variable(variable, Naming::Used, out),
         Exp::Constructor(constructor) => read_constructor(constructor, Naming::Used, out),
@@ -100,7 +109,9 @@ fn read_exp<'a>(exp: &'a Exp, out: &mut Outline<'a>) -> Result<(), AllocError> {
 
 /// A lexeme that is no name, and the expression behind it.
 #[cycle(expressions)]
-fn read_behind<'a>(item: &'a Item, exp: &'a Exp, out: &mut Outline<'a>) -> Result<(), AllocError> {
+fn read_behind<'a>(item: &'a Item, exp: &'a Exp, out: &mut Outline<'a>) -> Result<(), AllocError>
+    ensures { OnOk result (seen out.new ≡ fold after (seen out.old) (plain item.now ∷ exp_events exp.now)) }
+{
     out.plain(item)?;
     read_exp(exp, out)
 }
@@ -112,14 +123,18 @@ fn read_between<'a>(
     exp: &'a Exp,
     right: &'a Item,
     out: &mut Outline<'a>,
-) -> Result<(), AllocError> {
+) -> Result<(), AllocError>
+    ensures { OnOk result (seen out.new ≡ fold after (seen out.old) (plain left.now ∷ (exp_events exp.now ++ plain right.now ∷ []))) }
+{
     out.plain(left)?;
     read_exp(exp, out)?;
     out.plain(right)
 }
 
 #[cycle(expressions)]
-fn read_exps<'a>(exps: &'a [Exp], out: &mut Outline<'a>) -> Result<(), AllocError> {
+fn read_exps<'a>(exps: &'a [Exp], out: &mut Outline<'a>) -> Result<(), AllocError>
+    ensures { OnOk result (seen out.new ≡ fold after (seen out.old) (flat_map exp_events exps.now)) }
+{
     for exp in exps {
         read_exp(exp, out)?;
     }
@@ -132,7 +147,9 @@ fn read_list<'a>(
     parts: &'a [Listed<Exp>],
     right: &'a Item,
     out: &mut Outline<'a>,
-) -> Result<(), AllocError> {
+) -> Result<(), AllocError>
+    ensures { OnOk result (seen out.new ≡ fold after (seen out.old) (plain left.now ∷ (flat_map (listed_events exp_events) parts.now ++ plain right.now ∷ []))) }
+{
     out.plain(left)?;
     for part in parts {
         read_exp(&part.part, out)?;
@@ -142,10 +159,9 @@ fn read_list<'a>(
 }
 
 #[cycle(expressions)]
-fn read_operands<'a>(
-    operands: &'a [Operand<Exp>],
-    out: &mut Outline<'a>,
-) -> Result<(), AllocError> {
+fn read_operands<'a>(operands: &'a [Operand<Exp>], out: &mut Outline<'a>) -> Result<(), AllocError>
+    ensures { OnOk result (seen out.new ≡ fold after (seen out.old) (sequence_events Joint.Expression exp_events operands.now)) }
+{
     out.join(Joint::Expression)?;
     for operand in operands {
         read_minus(&operand.minus, out)?;
@@ -161,7 +177,9 @@ fn read_fields<'a>(
     fields: &'a [Listed<Field<Exp>>],
     right: &'a Item,
     out: &mut Outline<'a>,
-) -> Result<(), AllocError> {
+) -> Result<(), AllocError>
+    ensures { OnOk result (seen out.new ≡ fold after (seen out.old) (plain left.now ∷ (flat_map (listed_events (field_events exp_events)) fields.now ++ plain right.now ∷ []))) }
+{
     out.plain(left)?;
     for field in fields {
         read_variable(&field.part.name, Naming::Plain, out)?;
@@ -178,7 +196,9 @@ fn read_qualifiers<'a>(
     qualifiers: &'a [Listed<Qualifier>],
     right: &'a Item,
     out: &mut Outline<'a>,
-) -> Result<(), AllocError> {
+) -> Result<(), AllocError>
+    ensures { OnOk result (seen out.new ≡ fold after (seen out.old) (plain bar.now ∷ (qualifiers_events qualified_of 0 qualifiers.now ++ (all_left qualified_of qualifiers.now ++ plain right.now ∷ Event.End ∷ [])))) }
+{
     out.plain(bar)?;
     for (index, listed) in qualifiers.iter().enumerate() {
         read_qualifier(&listed.part, index, out)?;
@@ -189,11 +209,14 @@ fn read_qualifiers<'a>(
 }
 
 #[cycle(expressions)]
+#[tactic(auto, using(crate::proofs::ExpressionEvents::qualifier_read))]
 fn read_qualifier<'a>(
     qualifier: &'a Qualifier,
     index: usize,
     out: &mut Outline<'a>,
-) -> Result<(), AllocError> {
+) -> Result<(), AllocError>
+    ensures { OnOk result (seen out.new ≡ fold after (seen out.old) ((qualified_of qualifier.now).events index)) }
+{
     match qualifier {
         Qualifier::Generator(pattern, arrow, part) => {
             read_generator(pattern, arrow, index, out)?;
@@ -214,7 +237,9 @@ fn read_qualifier<'a>(
 pub(crate) fn read_block<'a>(
     block: &'a Block<Decl>,
     out: &mut Outline<'a>,
-) -> Result<(), AllocError> {
+) -> Result<(), AllocError>
+    ensures { OnOk result (seen out.new ≡ fold after (seen out.old) (block_events declared_of block.now)) }
+{
     read_opening(&block.layout, out)?;
     let mut before = None;
     for piece in block.pieces.as_slice() {
@@ -232,7 +257,10 @@ pub(crate) fn read_block<'a>(
 }
 
 #[cycle(expressions)]
-fn read_decl<'a>(decl: &'a Decl, goes_on: bool, out: &mut Outline<'a>) -> Result<(), AllocError> {
+#[tactic(auto, using(crate::proofs::ExpressionEvents::decl_read))]
+fn read_decl<'a>(decl: &'a Decl, goes_on: bool, out: &mut Outline<'a>) -> Result<(), AllocError>
+    ensures { OnOk result (seen out.new ≡ fold after (seen out.old) ((declared_of decl.now).events goes_on)) }
+{
     match decl {
         Decl::Import(import) => read_import(import, out),
         Decl::Synonym(word, head, equals, ty) => read_synonym(word, head, equals, ty, out),
@@ -265,10 +293,9 @@ fn read_decl<'a>(decl: &'a Decl, goes_on: bool, out: &mut Outline<'a>) -> Result
 
 /// A `where` and its block, up to the end of its region, which is open.
 #[cycle(expressions)]
-fn read_where<'a>(
-    locals: &'a Option<Where<Decl>>,
-    out: &mut Outline<'a>,
-) -> Result<(), AllocError> {
+fn read_where<'a>(locals: &'a Option<Where<Decl>>, out: &mut Outline<'a>) -> Result<(), AllocError>
+    ensures { OnOk result (seen out.new ≡ fold after (seen out.old) (where_events declared_of locals.now)) }
+{
     match locals {
         Some(locals) => {
             out.plain(&locals.word)?;
@@ -294,7 +321,9 @@ fn read_where<'a>(
 }
 
 #[cycle(expressions)]
-fn read_body<'a>(body: &'a Body<Exp>, out: &mut Outline<'a>) -> Result<(), AllocError> {
+fn read_body<'a>(body: &'a Body<Exp>, out: &mut Outline<'a>) -> Result<(), AllocError>
+    ensures { OnOk result (seen out.new ≡ fold after (seen out.old) (body_events exp_events body.now)) }
+{
     match body {
         Body::Plain(mark, exp) => read_behind(mark, exp, out),
         Body::Guarded(list) => {
@@ -312,7 +341,9 @@ fn read_alternatives<'a>(
     of_word: &'a Item,
     block: &'a Block<Alt>,
     out: &mut Outline<'a>,
-) -> Result<(), AllocError> {
+) -> Result<(), AllocError>
+    ensures { OnOk result (seen out.new ≡ fold after (seen out.old) (plain of_word.now ∷ alternatives_events alt_events block.now)) }
+{
     out.plain(of_word)?;
     read_opening(&block.layout, out)?;
     for piece in block.pieces.as_slice() {
@@ -325,7 +356,10 @@ fn read_alternatives<'a>(
 }
 
 #[cycle(expressions)]
-fn read_alternative<'a>(alternative: &'a Alt, out: &mut Outline<'a>) -> Result<(), AllocError> {
+#[tactic(auto, using(crate::proofs::ExpressionEvents::alt_read))]
+fn read_alternative<'a>(alternative: &'a Alt, out: &mut Outline<'a>) -> Result<(), AllocError>
+    ensures { OnOk result (seen out.new ≡ fold after (seen out.old) (alt_events alternative.now)) }
+{
     read_inner_pat(&alternative.pattern, out)?;
     enter_where(&alternative.locals, out)?;
     read_body(&alternative.body, out)?;
