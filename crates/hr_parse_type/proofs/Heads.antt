@@ -3,17 +3,20 @@ use Rattle.std.proofs.Common.{◌≡◌, Result, Ok, Err, IfOk, subst}
 use Rattle.hr_layout.specs.Standing.{Standing}
 use Rattle.hr_base.specs.declared.lexeme.Item.{Item}
 use Rattle.hr_tree.specs.declared.names.Constructor.{Constructor}
+use Rattle.hr_tree.specs.declared.types.Ty.{Ty}
 use Rattle.hr_tree.specs.Names.{constructor_items}
 use Rattle.hr_grammar.specs.Spelled.{IsTypeConstructor}
+use Rattle.hr_grammar.specs.Nodes.{TyPlace}
 use Rattle.hr_parse_lexeme.specs.declared.mark.Mark.{Mark}
 use Rattle.hr_parse_lexeme.specs.declared.names.Bracket.{Bracket}
+use Rattle.hr_parse_lexeme.specs.declared.nesting.Measured.{Measured}
 use Rattle.hr_parse_lexeme.specs.declared.stop.Stop.{Stop}
 use Rattle.hr_parse_lexeme.specs.Marks.{IsMark}
 use Rattle.hr_parse_lexeme.specs.Names.{IsNameless, Opens}
 use Rattle.hr_parse_lexeme.specs.Reads.{Takes, Spells}
 use Rattle.hr_parse_lexeme.proofs.Phrases.{spells_as}
 use Rattle.hr_parse_type.specs.declared.nodes.Head.{Head}
-use Rattle.hr_parse_type.specs.Heads.{OpensType, ReadsHead}
+use Rattle.hr_parse_type.specs.Heads.{OpensType, ReadsHead, ReadsTy}
 
 pub names_type : (named : Constructor) → IsNameless named → IsTypeConstructor named
 names_type (Constructor.Unit left right) h = h
@@ -42,3 +45,10 @@ named_at mark {a = a} {b} e h = subst (λ t. OpensType mark t a b) e h
 
 pub open_at : (mark : Mark) {bracket : Bracket} {left : Item} {a b : Standing} → bracket ≡ Bracket.Open left → OpensType mark bracket a b → Takes (IsMark mark) left a b
 open_at mark {a = a} {b} e h = subst (λ t. OpensType mark t a b) e h
+
+-- by what a head turned out to be
+pub named_head : {head : Head} {named : Constructor} {a b : Standing} → head ≡ Head.Named named → ReadsHead head a b → Spells IsTypeConstructor constructor_items named a b
+named_head {a = a} {b} e h = subst (λ t. ReadsHead t a b) e h
+
+pub atom_head : {head : Head} {ty : Measured Ty} {a b : Standing} → head ≡ Head.Atom ty → ReadsHead head a b → ReadsTy TyPlace.Atomic ty a b
+atom_head {a = a} {b} e h = subst (λ t. ReadsHead t a b) e h

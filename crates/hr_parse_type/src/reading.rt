@@ -78,7 +78,11 @@ pub fn atomic_type(alloc: Global, cursor: &mut Cursor, depth: u32) -> Result<Mea
 
 /// As many atomic types as follow.
 #[cycle(types)]
-fn arguments(alloc: Global, cursor: &mut Cursor, depth: u32) -> Result<Measured<Children<Ty>>, Stop>
+pub(crate) fn arguments(
+    alloc: Global,
+    cursor: &mut Cursor,
+    depth: u32,
+) -> Result<Measured<Children<Ty>>, Stop>
     requires { depth ≤ 256 }
     ensures reads { IfOk result (λ arguments. ReadsArguments arguments cursor.old cursor.new) }
     ensures fits { IfOk result (λ arguments. depth + arguments.height ≤ 256) }
@@ -130,7 +134,7 @@ fn head(alloc: Global, cursor: &mut Cursor, depth: u32) -> Result<Head, Stop>
 
 /// A constructor that its parentheses make, or what stands in them and the closing one.
 #[cycle(types)]
-fn in_parentheses(
+pub(crate) fn in_parentheses(
     alloc: Global,
     cursor: &mut Cursor,
     depth: u32,
