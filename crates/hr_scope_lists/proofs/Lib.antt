@@ -7,3 +7,4 @@ pub mod Levels
 pub mod RegionSteps
 pub mod FoundSteps
 pub mod BinderSteps
+pub mod DoubleSteps

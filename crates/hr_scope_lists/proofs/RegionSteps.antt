@@ -23,7 +23,7 @@ region_decides a b =
     (λ e. (ap (λ (r : Region). r.0) e, ap (λ (r : Region). r.1) e))
     (Decides-and (a.0 == b.0) (a.1 == b.1) (Decides-eqb a.0 b.0) (Decides-eqb a.1 b.1))
 
-regions_decide : (a b : List Region) → Decides (same_regions a b) (a ≡ b)
+pub regions_decide : (a b : List Region) → Decides (same_regions a b) (a ≡ b)
 regions_decide [] [] = yes refl
 regions_decide [] (b ∷ others) = no (λ e. cc)
 regions_decide (a ∷ outer) [] = no (λ e. cc)

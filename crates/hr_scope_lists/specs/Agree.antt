@@ -5,9 +5,11 @@ use Rattle.hr_base.specs.declared.bind.Entity.{Entity}
 use Rattle.hr_base.specs.declared.place.Spot.{Spot}
 use Rattle.hr_tree.specs.declared.modules.Module.{Module}
 use Rattle.hr_scope_rules.specs.Regions.{Placed}
+use Rattle.hr_scope_rules.specs.Doubles.{IsFirstDouble}
 use Rattle.hr_scope_rules.specs.Exports.{Exports, InScope}
 use Rattle.hr_scope_rules.specs.Binds.{Candidate, Binds}
 use Rattle.hr_scope_lists.specs.Scopes.{exports_of, scope_of}
+use Rattle.hr_scope_lists.specs.Doubles.{first_double}
 use Rattle.hr_scope_lists.specs.Found.{candidates, binder_at}
 
 abbrev pub ExportsAgree : Type 0
@@ -23,3 +25,6 @@ CandidatesAgree = (modules : List Module) (number : ℕ) (tree : Module) (mark :
 
 abbrev pub BindersAgree : Type 0
 BindersAgree = (modules : List Module) (spot : Spot) (binder : Binder) → (binder_at modules spot ≡ Some binder) ↔ Binds modules spot binder
+
+abbrev pub DoublesAgree : Type 0
+DoublesAgree = (marks : List Placed) (first second : ℕ) → (first_double marks ≡ Some (first, second)) ↔ IsFirstDouble marks first second

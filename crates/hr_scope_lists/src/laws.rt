@@ -1,5 +1,5 @@
 //! Each law is the clause of a function that does nothing.
-ghost use Rattle.hr_scope_lists.specs.Agree.{BindersAgree, CandidatesAgree, ExportsAgree, ScopesAgree};
+ghost use Rattle.hr_scope_lists.specs.Agree.{BindersAgree, CandidatesAgree, DoublesAgree, ExportsAgree, ScopesAgree};
 
 /// The list of what a module exports has what it exports, and nothing else.
 pub fn exports_agree()
@@ -19,4 +19,9 @@ pub fn candidates_agree()
 /// The binder that is computed for a lexeme is what it is bound to, and none is where it is bound to none.
 pub fn binders_agree()
     ensures { BindersAgree }
+{}
+
+/// The double declaration that is computed for a module is its first one, and none is where it has none.
+pub fn doubles_agree()
+    ensures { DoublesAgree }
 {}

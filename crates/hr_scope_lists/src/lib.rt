@@ -4,4 +4,4 @@
 
 mod laws;
 
-pub use laws::{binders_agree, candidates_agree, exports_agree, scopes_agree};
+pub use laws::{binders_agree, candidates_agree, doubles_agree, exports_agree, scopes_agree};
