@@ -1,0 +1,16 @@
+//! The bytes of a draft: what stands before each lexeme, and where the lines of moved blocks go.
+#![tactic(auto)]
+
+mod apart;
+mod blanks;
+mod fates;
+mod gaps;
+mod indent;
+mod old;
+mod page;
+mod print;
+mod shift;
+
+pub use apart::separated;
+pub use old::Old;
+pub use print::print_within;
