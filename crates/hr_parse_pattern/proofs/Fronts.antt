@@ -140,3 +140,25 @@ reached_fits most e p = subst (λ r. reached_height r ≤ most) e p
 pub own_shorter : (own : Own) (a b : Standing) (k : ℕ) → ReadsOwn own a b → k < length b.rest → k < length a.rest
 own_shorter (Own.Variable operator) a b k p q = behind_name k p q
 own_shorter (Own.Constructor operator) a b k p q = behind_name k p q
+
+pub at_own : {found own : Own} (a b : Standing) → found ≡ own → ReadsOwn found a b → ReadsOwn own a b
+at_own a b e p = subst (λ o. ReadsOwn o a b) e p
+
+pub opens_stay : {opens : List Item} {a b c : Standing} → c ≡ b → ReadsOpens opens a b → ReadsOpens opens a c
+opens_stay {opens} {a} e p = subst (λ s. ReadsOpens opens a s) (sym e) p
+
+pub infix_left_made : {found : Reached} {first second : Part Pat} {left right : Pat} {operator : Operator} {height : ℕ} {b c : Standing} (a d : Standing) → found ≡ headed_of (LeftHead.Infix left operator right) height
+    → left ≡ first.tree → right ≡ second.tree → height ≡ max first.height second.height → ReadsPat PatPlace.Whole first a b → Spells IsOwnVariableOperator operator_items operator b c
+    → ReadsPat PatPlace.Whole second c d → ReadsReached PatPlace.Whole found a d
+infix_left_made {first = first} {second} {right = right} {operator} {height} a d e f g m p q r =
+    same_reached PatPlace.Whole a d e
+    (subst (λ t. ReadsReached PatPlace.Whole (headed_of (LeftHead.Infix t operator right) height) a d) (sym f)
+    (subst (λ t. ReadsReached PatPlace.Whole (headed_of (LeftHead.Infix first.tree operator t) height) a d) (sym g)
+    (subst (λ k. ReadsReached PatPlace.Whole (headed_of (LeftHead.Infix first.tree operator second.tree) k) a d) (sym m) (infix_left_read p q r))))
+
+pub closed_one : (left : Left) {closes : List Closed} {height : ℕ} {right : Item} {many : Many Pat} {a b c d : Standing} → ReadsLeft left a b → Takes IsRightParen right b c → ReadsArguments many c d → many.list ≢ []
+    → closes ≡ left.closes ++ record { right = right; patterns = many.list } ∷ [] → height ≡ max left.height many.height → ReadsLeft (record { head = left.head; closes = closes; height = height }) a d
+closed_one left {height = height} {right} {many} {a} {d = d} p q r some e f =
+    subst (λ t. ReadsLeft (record { head = left.head; closes = t; height = height }) a d) (sym e)
+    (subst (λ h. ReadsLeft (record { head = left.head; closes = left.closes ++ record { right = right; patterns = many.list } ∷ []; height = h }) a d) (sym f)
+    (closes_one left.head left.closes (record { right = right; patterns = many.list }) p (item q (where_given _ some r.reads))))

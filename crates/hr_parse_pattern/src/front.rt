@@ -1,6 +1,10 @@
 //! What stands before `=`, a guard or `::` in a declaration: a variable, a pattern or the left side of an equation.
 //! It is read once. Parentheses that open at its beginning may belong to the left side or to a pattern in it; which
 //! of both is known where they close. They are read by a loop, since those of a left side are no nodes.
+ghost use Rattle.std.specs.Prelude.{◌≡◌, ◌-◌, ◌≤◌, [], max, IfOk, OnOk};
+ghost use Rattle.hr_layout.specs.Standing.{Standing};
+ghost use Rattle.hr_grammar.specs.Nodes.{PatPlace};
+ghost use Rattle.hr_parse_pattern.specs.Fronts.{front_height, reached_height, ReadsBehind, ReadsFront, ReadsLeft, ReadsLevel};
 
 use crate::level::{arguments_of, behind, first};
 use crate::nodes::variable_pattern;
@@ -53,7 +57,10 @@ pub fn beginning(
     cursor: &mut Cursor,
     notes: &mut Notes,
     depth: u32,
-) -> Result<Front, Stop> {
+) -> Result<Front, Stop>
+    ensures reads { IfOk result (λ front. ReadsFront front cursor.old cursor.new) }
+    ensures fits { IfOk result (λ front. front_height front ≤ 256 - depth) }
+{
     let mut level = first(alloc, cursor, notes, depth)?;
     for _ in 0..level.opens.list.len() {
         level = behind(alloc, cursor, notes, depth, level)?;
@@ -64,7 +71,10 @@ pub fn beginning(
 }
 
 /// What was read, where each parenthesis that opens has closed: those of a left side stay with it.
-fn whole(level: Level) -> Result<Front, Stop> {
+fn whole(level: Level) -> Result<Front, Stop>
+    ensures reads { IfOk result (λ front. (before after : Standing) → ReadsLevel PatPlace.Whole level before after → ReadsFront front before after) }
+    ensures height { IfOk result (λ front. front_height front ≡ reached_height level.reached) }
+{
     let Level { opens, reached } = level;
     match reached {
         Reached::Variable(bound) => {
@@ -92,7 +102,9 @@ fn whole(level: Level) -> Result<Front, Stop> {
     }
 }
 
-fn none_open(opens: &Seq<Item>) -> Result<(), Stop> {
+fn none_open(opens: &Seq<Item>) -> Result<(), Stop>
+    ensures { OnOk result (opens.now ≡ []) }
+{
     if opens.list.len() == 0 {
         Ok(())
     } else {
@@ -100,7 +112,9 @@ fn none_open(opens: &Seq<Item>) -> Result<(), Stop> {
     }
 }
 
-fn as_many(opens: usize, closes: usize) -> Result<(), Stop> {
+fn as_many(opens: usize, closes: usize) -> Result<(), Stop>
+    ensures { OnOk result (opens ≡ closes) }
+{
     if opens == closes {
         Ok(())
     } else {
@@ -116,7 +130,10 @@ fn close(
     notes: &mut Notes,
     depth: u32,
     level: Level,
-) -> Result<Level, Stop> {
+) -> Result<Level, Stop>
+    ensures reads { IfOk result (λ next. (before : Standing) → ReadsLevel PatPlace.Whole level before cursor.old → ReadsLevel PatPlace.Operand next before cursor.new) }
+    ensures fits { IfOk result (λ next. reached_height level.reached ≤ 256 - depth → reached_height next.reached ≤ 256 - depth) }
+{
     let Level { opens, reached } = level;
     match reached {
         Reached::Variable(bound) => {
@@ -146,7 +163,10 @@ fn close_pattern(
     depth: u32,
     opens: Seq<Item>,
     part: Part<Pat>,
-) -> Result<Level, Stop> {
+) -> Result<Level, Stop>
+    ensures reads { IfOk result (λ next. (before : Standing) → ReadsBehind opens part before cursor.old → ReadsLevel PatPlace.Operand next before cursor.new) }
+    ensures fits { IfOk result (λ next. reached_height next.reached ≤ 256 - depth) }
+{
     if !matches!(kind_ahead(cursor), Kind::RightParen | Kind::Comma) {
         return Err(Stop::Syntax);
     }
@@ -171,9 +191,13 @@ fn close_left(
     notes: &mut Notes,
     depth: u32,
     left: Left,
-) -> Result<Left, Stop> {
+) -> Result<Left, Stop>
+    ensures reads { IfOk result (λ next. (before : Standing) → ReadsLeft left before cursor.old → ReadsLeft next before cursor.new) }
+    ensures fits { IfOk result (λ next. next.height ≤ max left.height (256 - depth)) }
+{
     let right = expect(cursor, Mark::RightParen)?;
-    let Many { list, height } = arguments_of(alloc, cursor, notes, depth)?;
+    let many = arguments_of(alloc, cursor, notes, depth)?;
+    let Many { list, height } = many;
     let Left {
         head,
         mut closes,

@@ -1,6 +1,13 @@
 //! What stands behind one of the parentheses that open at the beginning of a declaration, up to the next one.
-ghost use Rattle.std.specs.Prelude.{IfOk};
-ghost use Rattle.hr_parse_pattern.specs.Fronts.{ReadsOwn};
+ghost use Rattle.std.specs.Prelude.{◌≡◌, ◌≢◌, ◌+◌, ◌-◌, ◌<◌, ◌≤◌, [], max, IfOk};
+ghost use Rattle.hr_layout.specs.Standing.{Standing};
+ghost use Rattle.hr_tree.specs.Names.{constructor_items, operator_items, variable_items};
+ghost use Rattle.hr_grammar.specs.Nodes.{PatPlace};
+ghost use Rattle.hr_grammar.specs.Words.{IsLeftParen};
+ghost use Rattle.hr_grammar.specs.Spelled.{IsConstructor, IsOwnVariableOperator, IsVariable};
+ghost use Rattle.hr_parse_lexeme.specs.Reads.{Spells, Takes};
+ghost use Rattle.hr_parse_pattern.specs.Patterns.{ReadsArguments, ReadsOperands, ReadsPat};
+ghost use Rattle.hr_parse_pattern.specs.Fronts.{headed_of, reached_height, ReadsLevel, ReadsOpens, ReadsOwn, ReadsReached};
 
 use crate::bound::{
     Signed, bound_at, minus_in_parenthesis, symbol_constructor, variable_name, variable_symbol,
@@ -15,7 +22,8 @@ use crate::{Many, Operands, Part};
 use hr_base::{Item, Seq};
 use hr_layout::Cursor;
 use hr_parse_lexeme::{
-    Held, Kind, Mark, Notes, Sort, Stop, accept, commas, expect, expect_sort, kind_ahead, nest,
+    Held, Kind, Mark, Notes, Sort, Stop, accept, commas, expect, expect_sort, is_next, kind_ahead,
+    nest,
 };
 use hr_tree::{Constructor, LeftHead, Operator, Pat, Variable};
 use std::alloc::Global;
@@ -26,27 +34,53 @@ pub(crate) fn first(
     cursor: &mut Cursor,
     notes: &mut Notes,
     depth: u32,
-) -> Result<Level, Stop> {
+) -> Result<Level, Stop>
+    ensures reads { IfOk result (λ level. ReadsLevel PatPlace.Operand level cursor.old cursor.new) }
+    ensures fits { IfOk result (λ level. reached_height level.reached ≤ 256 - depth) }
+{
     let mut list = Vec::new(alloc);
     while let Some(left) = accept(cursor, Mark::LeftParen) {
-        match kind_ahead(cursor) {
-            Kind::RightParen | Kind::Comma => {
-                let reached = unnamed(alloc, cursor, notes, depth, left)?;
-                return Ok(level_of(list, reached));
-            }
-            Kind::Minus => return behind_minus(alloc, cursor, notes, depth, list, left),
-            kind if is_symbol(kind) => {
-                let reached = behind_symbol(alloc, cursor, notes, depth, left, kind)?;
-                return Ok(level_of(list, reached));
-            }
-            _ => list.push(left)?,
+        let kind = kind_ahead(cursor);
+        if is_next(cursor, Mark::Minus) {
+            let level = behind_minus(alloc, cursor, notes, depth, list, left)?;
+            return Ok(level);
         }
+        if is_bracketed(kind) {
+            let reached = bracketed(alloc, cursor, notes, depth, left, kind)?;
+            return Ok(level_of(list, reached));
+        }
+        list.push(left)?;
     }
     let reached = unbracketed(alloc, cursor, notes, depth)?;
     Ok(level_of(list, reached))
 }
 
-fn level_of(list: Vec<Item>, reached: Reached) -> Level {
+/// Whether a parenthesis before such a lexeme belongs to a name.
+fn is_bracketed(kind: Kind) -> bool {
+    matches!(kind, Kind::RightParen | Kind::Comma) || is_symbol(kind)
+}
+
+/// A name in parentheses, behind the first one.
+fn bracketed(
+    alloc: Global,
+    cursor: &mut Cursor,
+    notes: &mut Notes,
+    depth: u32,
+    left: Item,
+    kind: Kind,
+) -> Result<Reached, Stop>
+    ensures reads { IfOk result (λ reached. (before : Standing) → Takes IsLeftParen left before cursor.old → ReadsReached PatPlace.Operand reached before cursor.new) }
+    ensures fits { IfOk result (λ reached. reached_height reached ≤ 256 - depth) }
+{
+    if is_symbol(kind) {
+        return behind_symbol(alloc, cursor, notes, depth, left, kind);
+    }
+    unnamed(alloc, cursor, notes, depth, left)
+}
+
+fn level_of(list: Vec<Item>, reached: Reached) -> Level
+    ensures { result ≡ record { opens = list.items; reached = reached } }
+{
     Level {
         opens: Seq { list },
         reached,
@@ -59,18 +93,28 @@ fn unbracketed(
     cursor: &mut Cursor,
     notes: &mut Notes,
     depth: u32,
-) -> Result<Reached, Stop> {
-    match kind_ahead(cursor) {
-        Kind::Variable => {
-            let bound = variable_name(cursor)?;
-            variable(alloc, cursor, notes, depth, bound)
-        }
-        kind if begins_pattern(kind) => {
-            let part = operand(alloc, cursor, notes, depth)?;
-            Ok(Reached::Pattern(part))
-        }
-        _ => Err(Stop::Syntax),
+) -> Result<Reached, Stop>
+    ensures reads { IfOk result (λ reached. ReadsReached PatPlace.Operand reached cursor.old cursor.new) }
+    ensures fits { IfOk result (λ reached. reached_height reached ≤ 256 - depth) }
+{
+    let kind = kind_ahead(cursor);
+    if kind == Kind::Variable {
+        return named(alloc, cursor, notes, depth);
     }
+    if !begins_pattern(kind) {
+        return Err(Stop::Syntax);
+    }
+    let part = operand(alloc, cursor, notes, depth)?;
+    Ok(Reached::Pattern(part))
+}
+
+/// A variable's name, or what it is bound to.
+fn named(alloc: Global, cursor: &mut Cursor, notes: &mut Notes, depth: u32) -> Result<Reached, Stop>
+    ensures reads { IfOk result (λ reached. ReadsReached PatPlace.Operand reached cursor.old cursor.new) }
+    ensures fits { IfOk result (λ reached. reached_height reached ≤ 256 - depth) }
+{
+    let bound = variable_name(cursor)?;
+    variable(alloc, cursor, notes, depth, bound)
 }
 
 /// The variable, or what it is bound to, which is a pattern.
@@ -80,7 +124,10 @@ fn variable(
     notes: &mut Notes,
     depth: u32,
     bound: Held<Variable>,
-) -> Result<Reached, Stop> {
+) -> Result<Reached, Stop>
+    ensures reads { IfOk result (λ reached. (before : Standing) → Spells IsVariable variable_items bound before cursor.old → ReadsReached PatPlace.Operand reached before cursor.new) }
+    ensures fits { IfOk result (λ reached. reached_height reached ≤ 256 - depth) }
+{
     notes.pattern(cursor.pos());
     if kind_ahead(cursor) != Kind::At {
         return Ok(Reached::Variable(bound));
@@ -98,7 +145,11 @@ fn constructor(
     notes: &mut Notes,
     depth: u32,
     named: Held<Constructor>,
-) -> Result<Reached, Stop> {
+) -> Result<Reached, Stop>
+    requires { depth < 256 }
+    ensures reads { IfOk result (λ reached. (before : Standing) → Spells IsConstructor constructor_items named before cursor.old → ReadsReached PatPlace.Operand reached before cursor.new) }
+    ensures fits { IfOk result (λ reached. reached_height reached ≤ 256 - depth) }
+{
     notes.pattern(cursor.pos());
     let part = constructor_with(alloc, cursor, notes, depth, named)?;
     Ok(Reached::Pattern(part))
@@ -111,7 +162,10 @@ fn unnamed(
     notes: &mut Notes,
     depth: u32,
     left: Item,
-) -> Result<Reached, Stop> {
+) -> Result<Reached, Stop>
+    ensures reads { IfOk result (λ reached. (before : Standing) → Takes IsLeftParen left before cursor.old → ReadsReached PatPlace.Operand reached before cursor.new) }
+    ensures fits { IfOk result (λ reached. reached_height reached ≤ 256 - depth) }
+{
     nest(depth, 1)?;
     if let Some(right) = accept(cursor, Mark::RightParen) {
         let named = Held::new(Constructor::Unit(left, right));
@@ -131,19 +185,34 @@ fn behind_symbol(
     depth: u32,
     left: Item,
     kind: Kind,
-) -> Result<Reached, Stop> {
-    match kind {
-        Kind::QualifiedVariableSymbol => Err(Stop::Syntax),
-        Kind::VariableSymbol => {
-            let bound = variable_symbol(cursor, left)?;
-            variable(alloc, cursor, notes, depth, bound)
-        }
-        _ => {
-            nest(depth, 1)?;
-            let named = symbol_constructor(cursor, left, kind)?;
-            constructor(alloc, cursor, notes, depth, named)
-        }
+) -> Result<Reached, Stop>
+    ensures reads { IfOk result (λ reached. (before : Standing) → Takes IsLeftParen left before cursor.old → ReadsReached PatPlace.Operand reached before cursor.new) }
+    ensures fits { IfOk result (λ reached. reached_height reached ≤ 256 - depth) }
+{
+    if kind == Kind::QualifiedVariableSymbol {
+        return Err(Stop::Syntax);
     }
+    if kind == Kind::VariableSymbol {
+        return symbol_variable(alloc, cursor, notes, depth, left);
+    }
+    nest(depth, 1)?;
+    let named = symbol_constructor(cursor, left, kind)?;
+    constructor(alloc, cursor, notes, depth, named)
+}
+
+/// A variable's operator in parentheses.
+fn symbol_variable(
+    alloc: Global,
+    cursor: &mut Cursor,
+    notes: &mut Notes,
+    depth: u32,
+    left: Item,
+) -> Result<Reached, Stop>
+    ensures reads { IfOk result (λ reached. (before : Standing) → Takes IsLeftParen left before cursor.old → ReadsReached PatPlace.Operand reached before cursor.new) }
+    ensures fits { IfOk result (λ reached. reached_height reached ≤ 256 - depth) }
+{
+    let bound = variable_symbol(cursor, left)?;
+    variable(alloc, cursor, notes, depth, bound)
 }
 
 /// The minus in parentheses as a variable, or a parenthesis behind which a negative integer stands.
@@ -154,7 +223,10 @@ fn behind_minus(
     depth: u32,
     opens: Vec<Item>,
     left: Item,
-) -> Result<Level, Stop> {
+) -> Result<Level, Stop>
+    ensures reads { IfOk result (λ level. (before middle : Standing) → ReadsOpens opens.items before middle → Takes IsLeftParen left middle cursor.old → ReadsLevel PatPlace.Operand level before cursor.new) }
+    ensures fits { IfOk result (λ level. reached_height level.reached ≤ 256 - depth) }
+{
     let mut opens = opens;
     match minus_in_parenthesis(cursor, left)? {
         Signed::Variable(bound) => {
@@ -182,7 +254,10 @@ pub(crate) fn behind(
     notes: &mut Notes,
     depth: u32,
     level: Level,
-) -> Result<Level, Stop> {
+) -> Result<Level, Stop>
+    ensures reads { IfOk result (λ next. (before : Standing) → ReadsLevel PatPlace.Operand level before cursor.old → ReadsLevel PatPlace.Whole next before cursor.new) }
+    ensures fits { IfOk result (λ next. reached_height level.reached ≤ 256 - depth → reached_height next.reached ≤ 256 - depth) }
+{
     let Level { opens, reached } = level;
     match reached {
         Reached::Variable(bound) => {
@@ -207,12 +282,13 @@ fn behind_variable(
     notes: &mut Notes,
     depth: u32,
     bound: Held<Variable>,
-) -> Result<Reached, Stop> {
+) -> Result<Reached, Stop>
+    ensures reads { IfOk result (λ reached. (before : Standing) → Spells IsVariable variable_items bound before cursor.old → ReadsReached PatPlace.Whole reached before cursor.new) }
+    ensures fits { IfOk result (λ reached. reached_height reached ≤ 256 - depth) }
+{
     let kind = kind_ahead(cursor);
     if begins_atomic(kind) {
-        let Many { list, height } = arguments_of(alloc, cursor, notes, depth)?;
-        let head = LeftHead::Prefix(bound.take(), list);
-        return Ok(headed(alloc, head, height));
+        return prefix(alloc, cursor, notes, depth, bound);
     }
     if !is_operator(kind) {
         return Ok(Reached::Variable(bound));
@@ -222,12 +298,31 @@ fn behind_variable(
     behind_pattern(alloc, cursor, notes, depth, part)
 }
 
+/// A function's name, with the patterns behind it.
+fn prefix(
+    alloc: Global,
+    cursor: &mut Cursor,
+    notes: &mut Notes,
+    depth: u32,
+    bound: Held<Variable>,
+) -> Result<Reached, Stop>
+    ensures reads { IfOk result (λ reached. (before : Standing) → Spells IsVariable variable_items bound before cursor.old → ReadsReached PatPlace.Whole reached before cursor.new) }
+    ensures fits { IfOk result (λ reached. reached_height reached ≤ 256 - depth) }
+{
+    let many = arguments_of(alloc, cursor, notes, depth)?;
+    let Many { list, height } = many;
+    let head = LeftHead::Prefix(bound.take(), list);
+    Ok(headed(alloc, head, height))
+}
+
 /// Whether an operator of a pattern or of a left side begins so.
 fn is_operator(kind: Kind) -> bool {
     constructor_symbol(kind) || matches!(kind, Kind::VariableSymbol | Kind::Minus | Kind::Backquote)
 }
 
-fn headed(alloc: Global, head: LeftHead, height: u32) -> Reached {
+fn headed(alloc: Global, head: LeftHead, height: u32) -> Reached
+    ensures { result ≡ headed_of head height }
+{
     Reached::Left(Left {
         head: Held::new(head),
         closes: Seq {
@@ -243,7 +338,11 @@ pub(crate) fn arguments_of(
     cursor: &mut Cursor,
     notes: &mut Notes,
     depth: u32,
-) -> Result<Many<Pat>, Stop> {
+) -> Result<Many<Pat>, Stop>
+    ensures reads { IfOk result (λ many. ReadsArguments many cursor.old cursor.new) }
+    ensures some { IfOk result (λ many. many.list ≢ []) }
+    ensures fits { IfOk result (λ many. many.height ≤ 256 - depth) }
+{
     let many = arguments(alloc, cursor, notes, depth, Many::new(alloc))?;
     if many.list.len() == 0 {
         return Err(Stop::Syntax);
@@ -259,7 +358,10 @@ fn behind_pattern(
     notes: &mut Notes,
     depth: u32,
     part: Part<Pat>,
-) -> Result<Reached, Stop> {
+) -> Result<Reached, Stop>
+    ensures reads { IfOk result (λ reached. (before : Standing) → ReadsPat PatPlace.Operand part before cursor.old → ReadsReached PatPlace.Whole reached before cursor.new) }
+    ensures fits { IfOk result (λ reached. reached_height reached ≤ 256 - depth) }
+{
     let mut operands = Operands::new(alloc);
     let mut last = part;
     loop {
@@ -286,7 +388,10 @@ fn pattern_of(
     depth: u32,
     operands: Operands<Pat>,
     last: Part<Pat>,
-) -> Result<Reached, Stop> {
+) -> Result<Reached, Stop>
+    ensures reads { IfOk result (λ reached. (before after : Standing) → ReadsOperands operands last before after → ReadsReached PatPlace.Whole reached before after) }
+    ensures fits { IfOk result (λ reached. reached_height reached ≤ 256 - depth) }
+{
     let part = infix(alloc, operands, last)?;
     nest(depth, part.height)?;
     Ok(Reached::Pattern(part))
@@ -346,14 +451,17 @@ fn infix_left(
     operands: Operands<Pat>,
     last: Part<Pat>,
     operator: Operator,
-) -> Result<Reached, Stop> {
+) -> Result<Reached, Stop>
+    ensures reads { IfOk result (λ reached. (before middle : Standing) → ReadsOperands operands last before middle → Spells IsOwnVariableOperator operator_items operator middle cursor.old → ReadsReached PatPlace.Whole reached before cursor.new) }
+    ensures fits { IfOk result (λ reached. reached_height reached ≤ 256 - depth) }
+{
     let operator = Held::new(operator);
     let first = infix(alloc, operands, last)?;
     nest(depth, first.height)?;
     let second = pattern(alloc, cursor, notes, depth)?;
     let height = first.height.max(second.height);
-    let Part { tree: first, .. } = first;
-    let Part { tree: second, .. } = second;
-    let head = LeftHead::Infix(first.into_inner(), operator.take(), second.into_inner());
+    let Part { tree: left, .. } = first;
+    let Part { tree: right, .. } = second;
+    let head = LeftHead::Infix(left.into_inner(), operator.take(), right.into_inner());
     Ok(headed(alloc, head, height))
 }
