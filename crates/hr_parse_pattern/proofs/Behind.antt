@@ -16,12 +16,12 @@ further P R Q S (Ok t) h turn also = λ before r. also t before (h before (turn 
 further P R Q S (Err stop) h turn also = tt
 
 -- the caller's caller does, up to where the cursor stands
-pub at_end : {T : Type 0} (P : Standing → Standing → Type 0) (R : Standing → Type 0) {Q : T → Standing → Standing → Type 0} (result : Result T Stop) (b : Standing)
+pub at_end : {T : Type 0} (P : Standing → Standing → Type 0) (R : Standing → Type 0) (Q : T → Standing → Standing → Type 0) (result : Result T Stop) (b : Standing)
     → IfOk result (λ t. (before after : Standing) → P before after → Q t before after) → ((before : Standing) → R before → P before b) → IfOk result (λ t. (before : Standing) → R before → Q t before b)
-at_end P R (Ok t) b h turn = λ before r. h before b (turn before r)
-at_end P R (Err stop) b h turn = tt
+at_end P R Q (Ok t) b h turn = λ before r. h before b (turn before r)
+at_end P R Q (Err stop) b h turn = tt
 
-pub infix_behind : {T : Type 0} {P : Standing → Standing → Type 0} {S R : Standing → Type 0} {Q : T → Standing → Type 0} (result : Result T Stop) (b : Standing)
+pub infix_behind : {T : Type 0} (P : Standing → Standing → Type 0) (S R : Standing → Type 0) (Q : T → Standing → Type 0) (result : Result T Stop) (b : Standing)
     → IfOk result (λ t. (before middle : Standing) → P before middle → S middle → Q t before) → ((before : Standing) → R before → P before b) → S b → IfOk result (λ t. (before : Standing) → R before → Q t before)
-infix_behind (Ok t) b h turn s = λ before r. h before b (turn before r) s
-infix_behind (Err stop) b h turn s = tt
+infix_behind P S R Q (Ok t) b h turn s = λ before r. h before b (turn before r) s
+infix_behind P S R Q (Err stop) b h turn s = tt

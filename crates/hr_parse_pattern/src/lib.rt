@@ -1,6 +1,6 @@
 //! Patterns, and left sides of declarations: the Haskell 98 Report, sections 3.17 and 4.4.3. What the next lexeme
 //! can begin decides, so each choice leaves one production.
-#![tactic(none)]
+#![tactic(auto)]
 
 mod bound;
 mod brackets;

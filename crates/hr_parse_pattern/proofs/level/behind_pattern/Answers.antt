@@ -16,8 +16,8 @@ loop-kind-preserved c =
     c.in_ok-last-in-Constructor.ensures.reads
 
 pub returns-then-not-is_operator-clause-reads : goal.returns-then-not-is_operator-clause-reads
-returns-then-not-is_operator-clause-reads c = at_end _ _ c.pattern_of.result _ c.pattern_of.ensures.reads c.loop-kind.invariant
+returns-then-not-is_operator-clause-reads c = at_end _ _ _ c.pattern_of.result _ c.pattern_of.ensures.reads c.loop-kind.invariant
 
 pub returns-in-Variable-clause-reads : goal.returns-in-Variable-clause-reads
 returns-in-Variable-clause-reads c =
-    infix_behind c.infix_left.result _ c.infix_left.ensures.reads c.loop-kind.invariant (at_own c.loop-kind.cursor c.own_operator.new.cursor c.in-Variable.is c.in_ok-own.ensures)
+    infix_behind _ _ _ _ c.infix_left.result _ c.infix_left.ensures.reads c.loop-kind.invariant (at_own c.loop-kind.cursor c.own_operator.new.cursor c.in-Variable.is c.in_ok-own.ensures)

@@ -19,4 +19,4 @@ pub returns-then-is_bracketed-clause-reads : goal.returns-then-is_bracketed-clau
 returns-then-is_bracketed-clause-reads c = level_read PatPlace.Operand c.in_ok-reached.reached c.level_of.ensures c.loop-left.invariant (c.in_ok-reached.ensures.reads _ c.in-Some.ensures)
 
 pub returns-clause-reads : goal.returns-clause-reads
-returns-clause-reads c = level_read PatPlace.Operand c.in_ok-reached.reached c.level_of.ensures (opens_stay c.in_default.ensures c.loop-left.invariant) c.in_ok-reached.ensures.reads
+returns-clause-reads c = level_read PatPlace.Operand c.in_ok-reached-2.reached c.level_of-2.ensures (opens_stay c.in_default.ensures c.loop-left.invariant) c.in_ok-reached-2.ensures.reads
