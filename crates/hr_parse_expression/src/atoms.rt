@@ -1,4 +1,14 @@
 //! Atoms: the Haskell 98 Report, section 3.2.
+ghost use Rattle.std.specs.Prelude.{true, false, IfOk};
+ghost use Rattle.hr_base.specs.declared.lexeme.Ending.{Ending};
+ghost use Rattle.hr_layout.specs.Standing.{Standing};
+ghost use Rattle.hr_tree.specs.Names.{constructor_items, variable_items};
+ghost use Rattle.hr_grammar.specs.Spelled.{IsConstructor, IsNamedVariable, IsVariable};
+ghost use Rattle.hr_grammar.specs.Nodes.{Colons, ExpPlace, PatPlace};
+ghost use Rattle.hr_parse_lexeme.specs.Reads.{Spells};
+ghost use Rattle.hr_parse_expression.specs.Atoms.{IsParenthesized};
+ghost use Rattle.hr_parse_expression.specs.Parts.{EndsExp, MayTwin};
+ghost use Rattle.hr_parse_expression.specs.Steps.{Steps, Wanted};
 
 use crate::brackets::{parenthesized, squared};
 use crate::machine::{Step, done_expression, done_pattern};
@@ -20,7 +30,9 @@ pub(crate) fn atom(
     notes: &mut Notes,
     depth: u32,
     may_bind: bool,
-) -> Result<Step, Stop> {
+) -> Result<Step, Stop>
+    ensures { IfOk result (λ step. Steps Wanted.Atom step cursor.old cursor.new) }
+{
     let kind = kind_ahead(cursor);
     if may_bind && begins_pattern_alone(kind) {
         let part = atomic(alloc, cursor, notes, depth)?;
@@ -44,7 +56,9 @@ fn number(
     cursor: &mut Cursor,
     notes: &mut Notes,
     may_bind: bool,
-) -> Result<Step, Stop> {
+) -> Result<Step, Stop>
+    ensures { IfOk result (λ step. Steps Wanted.Atom step cursor.old cursor.new) }
+{
     let number = expect_sort(cursor, Sort::Integer)?;
     let twin = number_twin(&number, may_bind)?;
     let exp = node(alloc, Exp::Literal(number), 0)?;
@@ -56,7 +70,9 @@ fn literal(
     cursor: &mut Cursor,
     notes: &mut Notes,
     may_bind: bool,
-) -> Result<Step, Stop> {
+) -> Result<Step, Stop>
+    ensures { IfOk result (λ step. Steps Wanted.Atom step cursor.old cursor.new) }
+{
     let literal = expect_sort(cursor, Sort::Literal)?;
     let twin = literal_twin(alloc, &literal, may_bind)?;
     let exp = node(alloc, Exp::Literal(literal), 0)?;
@@ -70,7 +86,9 @@ fn named(
     notes: &mut Notes,
     depth: u32,
     may_bind: bool,
-) -> Result<Step, Stop> {
+) -> Result<Step, Stop>
+    ensures { IfOk result (λ step. Steps Wanted.Atom step cursor.old cursor.new) }
+{
     match kind_ahead(cursor) {
         Kind::Variable => {
             let name = expect_sort(cursor, Sort::Variable)?;
@@ -95,7 +113,9 @@ pub(crate) fn variable(
     depth: u32,
     name: Variable,
     may_bind: bool,
-) -> Result<Step, Stop> {
+) -> Result<Step, Stop>
+    ensures { IfOk result (λ step. (before : Standing) → Spells IsVariable variable_items name before cursor.old → Steps Wanted.Atom step before cursor.new) }
+{
     if may_bind && is_next(cursor, Mark::At) {
         let part = bound_at(alloc, cursor, notes, depth, name)?;
         notes.whole(cursor.pos());
@@ -107,7 +127,9 @@ pub(crate) fn variable(
 }
 
 /// A variable of an expression alone.
-fn used(alloc: Global, cursor: &Cursor, notes: &mut Notes, name: Variable) -> Result<Step, Stop> {
+fn used(alloc: Global, cursor: &Cursor, notes: &mut Notes, name: Variable) -> Result<Step, Stop>
+    ensures { IfOk result (λ step. (before : Standing) → Spells IsNamedVariable variable_items name before cursor.now → Steps Wanted.Atom step before cursor.now) }
+{
     let exp = node(alloc, Exp::Variable(name), 0)?;
     Ok(whole(cursor, notes, exp, None))
 }
@@ -118,7 +140,9 @@ pub(crate) fn constructor(
     notes: &mut Notes,
     named: Constructor,
     may_bind: bool,
-) -> Result<Step, Stop> {
+) -> Result<Step, Stop>
+    ensures { IfOk result (λ step. (before : Standing) → Spells IsConstructor constructor_items named before cursor.now → Steps Wanted.Atom step before cursor.now) }
+{
     let twin = named_twin(&named, may_bind)?;
     let exp = node(alloc, Exp::Constructor(named), 0)?;
     Ok(whole(cursor, notes, exp, twin))
@@ -141,7 +165,9 @@ pub(crate) fn symbol(
     depth: u32,
     name: Parenthesized,
     may_bind: bool,
-) -> Result<Step, Stop> {
+) -> Result<Step, Stop>
+    ensures { IfOk result (λ step. (before : Standing) → IsParenthesized name before cursor.old → Steps Wanted.Atom step before cursor.new) }
+{
     let Parenthesized {
         left,
         symbol,
@@ -168,12 +194,9 @@ pub(crate) fn symbol(
 }
 
 /// An atom that is whole.
-pub(crate) fn whole(
-    cursor: &Cursor,
-    notes: &mut Notes,
-    part: Part<Exp>,
-    twin: Option<Twin>,
-) -> Step {
+pub(crate) fn whole(cursor: &Cursor, notes: &mut Notes, part: Part<Exp>, twin: Option<Twin>) -> Step
+    ensures { (before after : Standing) → ((free : Colons) → EndsExp free ExpPlace.Atom part.height part.tree (Ending.Applied true false) before after) → MayTwin PatPlace.Atomic twin before after → Steps Wanted.Atom result before after }
+{
     notes.whole(cursor.pos());
     done_expression(operand(part, APPLIED, twin))
 }

@@ -1,6 +1,6 @@
 //! Expressions, declarations with them, and blocks: the Haskell 98 Report, chapters 3 and 4. What the next lexeme can
 //! begin decides, so each choice leaves one production; where two have a beginning in common, it is read once.
-#![tactic(auto)]
+#![tactic(none)]
 
 mod applications;
 mod atoms;

@@ -1,6 +1,15 @@
 //! What is read next, and what waits for it. Expressions, declarations and blocks stand in one another, so none of
 //! their readers calls another one: each takes lexemes up to the next part of its own and says what that is, and what
 //! waits for the part stands on a stack. So a text may nest as deep as it likes, and each reader is proved alone.
+ghost use Rattle.std.specs.Prelude.{◌≡◌, IfOk};
+ghost use Rattle.hr_layout.specs.Standing.{Standing};
+ghost use Rattle.hr_parse_lexeme.specs.Reads.{Consumes};
+ghost use Rattle.hr_parse_expression.specs.declared.machine.Step.{Step};
+ghost use Rattle.hr_parse_expression.specs.declared.machine.Value.{Value};
+ghost use Rattle.hr_parse_expression.specs.Mixed.{value_of};
+ghost use Rattle.hr_parse_expression.specs.Parts.{block_of};
+ghost use Rattle.hr_parse_expression.specs.Places.{opening_place};
+ghost use Rattle.hr_parse_expression.specs.Steps.{Begun, IsOpening, ReadsValue, Steps, Waits, Wanted, wanted};
 
 use crate::applications::{Arguments, behind_argument, behind_head, operand};
 use crate::atoms::atom;
@@ -80,35 +89,51 @@ pub(crate) enum Step {
     Done(Held<Value>),
 }
 
-pub(crate) fn go(goal: Goal) -> Step {
+pub(crate) fn go(goal: Goal) -> Step
+    ensures { result ≡ Step.Read goal }
+{
     Step::Read(Held::new(goal))
 }
 
-pub(crate) fn wait(frame: Frame, goal: Goal) -> Step {
+pub(crate) fn wait(frame: Frame, goal: Goal) -> Step
+    ensures { result ≡ Step.Wait frame goal }
+{
     Step::Wait(Held::new(frame), Held::new(goal))
 }
 
-fn done(value: Value) -> Step {
+fn done(value: Value) -> Step
+    ensures { result ≡ Step.Done value }
+{
     Step::Done(Held::new(value))
 }
 
-pub(crate) fn done_expression(read: Read) -> Step {
+pub(crate) fn done_expression(read: Read) -> Step
+    ensures { result ≡ Step.Done (Value.Expression read) }
+{
     done(Value::Expression(Held::new(read)))
 }
 
-pub(crate) fn done_pattern(part: Part<Pat>) -> Step {
+pub(crate) fn done_pattern(part: Part<Pat>) -> Step
+    ensures { result ≡ Step.Done (Value.Pattern part) }
+{
     done(Value::Pattern(part))
 }
 
-pub(crate) fn done_declarations(block: Blocked<Decl>) -> Step {
+pub(crate) fn done_declarations(block: Blocked<Decl>) -> Step
+    ensures { result ≡ Step.Done (Value.Declarations block) }
+{
     done(Value::Declarations(Held::new(block)))
 }
 
-pub(crate) fn done_alternatives(block: Blocked<Alt>) -> Step {
+pub(crate) fn done_alternatives(block: Blocked<Alt>) -> Step
+    ensures { result ≡ Step.Done (Value.Alternatives block) }
+{
     done(Value::Alternatives(Held::new(block)))
 }
 
-pub(crate) fn done_side(side: Side) -> Step {
+pub(crate) fn done_side(side: Side) -> Step
+    ensures { result ≡ Step.Done (Value.Side side) }
+{
     done(Value::Side(Held::new(side)))
 }
 
@@ -116,7 +141,9 @@ pub(crate) fn done_side(side: Side) -> Step {
 const STEPS: u64 = u64::MAX;
 
 /// Reads what the goal says.
-fn read(alloc: Global, cursor: &mut Cursor, notes: &mut Notes, goal: Goal) -> Result<Value, Stop> {
+fn read(alloc: Global, cursor: &mut Cursor, notes: &mut Notes, goal: Goal) -> Result<Value, Stop>
+    ensures { IfOk result (λ value. (before : Standing) → Begun goal before cursor.old → ReadsValue (wanted goal) value before cursor.new) }
+{
     let mut stack = Stack::new(alloc);
     let mut step = go(goal);
     for _ in 0..STEPS {
@@ -136,7 +163,9 @@ fn read(alloc: Global, cursor: &mut Cursor, notes: &mut Notes, goal: Goal) -> Re
 }
 
 /// Begins what is read next.
-fn begin(alloc: Global, cursor: &mut Cursor, notes: &mut Notes, goal: Goal) -> Result<Step, Stop> {
+fn begin(alloc: Global, cursor: &mut Cursor, notes: &mut Notes, goal: Goal) -> Result<Step, Stop>
+    ensures { IfOk result (λ step. (before : Standing) → Begun goal before cursor.old → Steps (wanted goal) step before cursor.new) }
+{
     match goal {
         Goal::Sequence(place, minus) => Ok(begin_sequence(alloc, cursor, place, minus)),
         Goal::Operand(place) => operand(alloc, cursor, notes, place),
@@ -157,7 +186,9 @@ fn behind(
     notes: &mut Notes,
     frame: Frame,
     value: Held<Value>,
-) -> Result<Step, Stop> {
+) -> Result<Step, Stop>
+    ensures { IfOk result (λ step. (makes needs : Wanted) (before middle : Standing) → Waits frame makes needs before middle → ReadsValue needs value middle cursor.old → Steps makes step before cursor.new) }
+{
     match frame {
         Frame::Operand(sequence) => behind_operand(alloc, cursor, notes, sequence.take(), value),
         Frame::Head(depth) => behind_head(alloc, cursor, depth, value),
@@ -188,7 +219,9 @@ pub fn declarations(
     notes: &mut Notes,
     depth: u32,
     is_body: bool,
-) -> Result<Blocked<Decl>, Stop> {
+) -> Result<Blocked<Decl>, Stop>
+    ensures { IfOk result (λ block. IsOpening is_body cursor.old → Consumes block.height (λ below n. below.declarations n (opening_place is_body) (block_of block)) cursor.old cursor.new) }
+{
     let value = read(alloc, cursor, notes, Goal::Declarations(depth, is_body))?;
     declarations_of(Held::new(value))
 }
@@ -200,7 +233,9 @@ pub(crate) enum Mixed {
     Pattern(Part<Pat>),
 }
 
-pub(crate) fn mixed_of(value: Held<Value>) -> Result<Mixed, Stop> {
+pub(crate) fn mixed_of(value: Held<Value>) -> Result<Mixed, Stop>
+    ensures { IfOk result (λ found. value ≡ value_of found) }
+{
     match value.take() {
         Value::Expression(read) => Ok(Mixed::Expression(read)),
         Value::Pattern(part) => Ok(Mixed::Pattern(part)),
@@ -211,28 +246,36 @@ pub(crate) fn mixed_of(value: Held<Value>) -> Result<Mixed, Stop> {
 }
 
 /// The expression that was read.
-pub(crate) fn expression(value: Held<Value>) -> Result<Read, Stop> {
+pub(crate) fn expression(value: Held<Value>) -> Result<Read, Stop>
+    ensures { IfOk result (λ read. value ≡ Value.Expression read) }
+{
     match value.take() {
         Value::Expression(read) => Ok(read.take()),
         _ => Err(Stop::Syntax),
     }
 }
 
-pub(crate) fn declarations_of(value: Held<Value>) -> Result<Blocked<Decl>, Stop> {
+pub(crate) fn declarations_of(value: Held<Value>) -> Result<Blocked<Decl>, Stop>
+    ensures { IfOk result (λ block. value ≡ Value.Declarations block) }
+{
     match value.take() {
         Value::Declarations(block) => Ok(block.take()),
         _ => Err(Stop::Syntax),
     }
 }
 
-pub(crate) fn alternatives_of(value: Held<Value>) -> Result<Blocked<Alt>, Stop> {
+pub(crate) fn alternatives_of(value: Held<Value>) -> Result<Blocked<Alt>, Stop>
+    ensures { IfOk result (λ block. value ≡ Value.Alternatives block) }
+{
     match value.take() {
         Value::Alternatives(block) => Ok(block.take()),
         _ => Err(Stop::Syntax),
     }
 }
 
-pub(crate) fn side_of(value: Held<Value>) -> Result<Side, Stop> {
+pub(crate) fn side_of(value: Held<Value>) -> Result<Side, Stop>
+    ensures { IfOk result (λ side. value ≡ Value.Side side) }
+{
     match value.take() {
         Value::Side(side) => Ok(side.take()),
         _ => Err(Stop::Syntax),

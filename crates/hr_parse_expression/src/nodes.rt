@@ -1,4 +1,8 @@
 //! The nodes of expressions, with their heights. Each is made and boxed in one step.
+ghost use Rattle.std.specs.Prelude.{◌≡◌, ◌+◌, max, IfOk};
+ghost use Rattle.hr_tree.specs.declared.expressions.Exp.{Exp};
+ghost use Rattle.hr_parse_expression.specs.Nodes.{condition_of, from_of, from_to_of, lambda_of, let_of, sequence_of};
+ghost use Rattle.hr_parse_expression.specs.Parts.{block_of};
 
 use crate::forms::{Condition, LetBody};
 use crate::lists::Dots;
@@ -13,7 +17,9 @@ use sqlite_items::Boxed;
 use std::alloc::Global;
 
 /// The node over parts with so many levels, which fit: what begins a node has shown it before.
-pub(crate) fn node(alloc: Global, exp: Exp, levels: u32) -> Result<Part<Exp>, Stop> {
+pub(crate) fn node(alloc: Global, exp: Exp, levels: u32) -> Result<Part<Exp>, Stop>
+    ensures { IfOk result (λ part. part ≡ record { tree = exp; height = levels + 1 }) }
+{
     let tree = Boxed::new(alloc, exp)?;
     nest(1, levels)?;
     Ok(Part {
@@ -27,7 +33,9 @@ pub(crate) fn group(
     left: Item,
     part: Part<Exp>,
     right: Item,
-) -> Result<Part<Exp>, Stop> {
+) -> Result<Part<Exp>, Stop>
+    ensures { IfOk result (λ made. made ≡ record { tree = Exp.Group left part.tree right; height = part.height + 1 }) }
+{
     let Part { tree, height } = part;
     node(alloc, Exp::Group(left, tree, right), height)
 }
@@ -38,7 +46,9 @@ pub(crate) fn left_section(
     part: Part<Exp>,
     operator: Operator,
     right: Item,
-) -> Result<Part<Exp>, Stop> {
+) -> Result<Part<Exp>, Stop>
+    ensures { IfOk result (λ made. made ≡ record { tree = Exp.LeftSection left part.tree operator right; height = part.height + 1 }) }
+{
     let Part { tree, height } = part;
     node(alloc, Exp::LeftSection(left, tree, operator, right), height)
 }
@@ -49,7 +59,9 @@ pub(crate) fn right_section(
     operator: Operator,
     part: Part<Exp>,
     right: Item,
-) -> Result<Part<Exp>, Stop> {
+) -> Result<Part<Exp>, Stop>
+    ensures { IfOk result (λ made. made ≡ record { tree = Exp.RightSection left operator part.tree right; height = part.height + 1 }) }
+{
     let Part { tree, height } = part;
     node(
         alloc,
@@ -63,7 +75,9 @@ pub(crate) fn tuple(
     left: Item,
     parts: Parts<Exp>,
     right: Item,
-) -> Result<Part<Exp>, Stop> {
+) -> Result<Part<Exp>, Stop>
+    ensures { IfOk result (λ made. made ≡ record { tree = Exp.Tuple left parts.list right; height = parts.height + 1 }) }
+{
     let Parts { list, height } = parts;
     node(alloc, Exp::Tuple(left, list, right), height)
 }
@@ -73,13 +87,17 @@ pub(crate) fn list(
     left: Item,
     parts: Parts<Exp>,
     right: Item,
-) -> Result<Part<Exp>, Stop> {
+) -> Result<Part<Exp>, Stop>
+    ensures { IfOk result (λ made. made ≡ record { tree = Exp.List left parts.list right; height = parts.height + 1 }) }
+{
     let Parts { list, height } = parts;
     node(alloc, Exp::List(left, list, right), height)
 }
 
 /// `[a ..]` or `[a, b ..]`.
-pub(crate) fn from(alloc: Global, dots: Dots, mark: Item, right: Item) -> Result<Part<Exp>, Stop> {
+pub(crate) fn from(alloc: Global, dots: Dots, mark: Item, right: Item) -> Result<Part<Exp>, Stop>
+    ensures { IfOk result (λ made. made ≡ from_of dots mark right) }
+{
     match dots {
         Dots::One(left, first) => {
             let Part { tree, height } = first;
@@ -105,7 +123,9 @@ pub(crate) fn from_to(
     mark: Item,
     last: Part<Exp>,
     right: Item,
-) -> Result<Part<Exp>, Stop> {
+) -> Result<Part<Exp>, Stop>
+    ensures { IfOk result (λ made. made ≡ from_to_of dots mark last right) }
+{
     let Part { tree: last, height } = last;
     match dots {
         Dots::One(left, first) => {
@@ -123,7 +143,9 @@ pub(crate) fn from_to(
     }
 }
 
-pub(crate) fn apply(alloc: Global, atoms: Many<Exp>) -> Result<Part<Exp>, Stop> {
+pub(crate) fn apply(alloc: Global, atoms: Many<Exp>) -> Result<Part<Exp>, Stop>
+    ensures { IfOk result (λ made. made ≡ record { tree = Exp.Apply atoms.list; height = atoms.height + 1 }) }
+{
     let Many { list, height } = atoms;
     node(alloc, Exp::Apply(list), height)
 }
@@ -133,7 +155,9 @@ pub(crate) fn annotated(
     part: Part<Exp>,
     colons: Item,
     ty: Measured<Ty>,
-) -> Result<Part<Exp>, Stop> {
+) -> Result<Part<Exp>, Stop>
+    ensures { IfOk result (λ made. made ≡ record { tree = Exp.Annotated part.tree colons ty.tree; height = max ty.height part.height + 1 }) }
+{
     let Part { tree, height } = part;
     let levels = ty.height.max(height);
     let Measured { tree: ty, .. } = ty;
@@ -146,7 +170,9 @@ pub(crate) fn sequence(
     operands: Operands<Exp>,
     minus: Option<Item>,
     last: Part<Exp>,
-) -> Result<Part<Exp>, Stop> {
+) -> Result<Part<Exp>, Stop>
+    ensures { IfOk result (λ made. made ≡ sequence_of operands minus last) }
+{
     if operands.is_empty() && minus.is_none() {
         return Ok(last);
     }
@@ -160,7 +186,9 @@ pub(crate) fn comprehension(
     alloc: Global,
     begun: Comprehension,
     right: Item,
-) -> Result<Part<Exp>, Stop> {
+) -> Result<Part<Exp>, Stop>
+    ensures { IfOk result (λ made. made ≡ record { tree = Exp.Comprehension begun.left begun.first.tree begun.bar begun.qualifiers.list right; height = max begun.qualifiers.height begun.first.height + 1 }) }
+{
     let Comprehension {
         left,
         first,
@@ -187,7 +215,9 @@ pub(crate) fn lambda(
     patterns: Many<Pat>,
     arrow: Item,
     body: Read,
-) -> Result<Read, Stop> {
+) -> Result<Read, Stop>
+    ensures { IfOk result (λ made. made ≡ lambda_of mark patterns arrow body) }
+{
     let Many { list, height } = patterns;
     let Read {
         tree,
@@ -204,7 +234,9 @@ pub(crate) fn lambda(
     Ok(open(exp, Tail { ending, operator }))
 }
 
-pub(crate) fn local(alloc: Global, local: LetBody, body: Read) -> Result<Read, Stop> {
+pub(crate) fn local(alloc: Global, local: LetBody, body: Read) -> Result<Read, Stop>
+    ensures { IfOk result (λ made. made ≡ let_of local body) }
+{
     let LetBody {
         word,
         block,
@@ -237,7 +269,9 @@ pub(crate) fn condition(
     first: Part<Exp>,
     else_word: Item,
     second: Read,
-) -> Result<Read, Stop> {
+) -> Result<Read, Stop>
+    ensures { IfOk result (λ made. made ≡ condition_of condition first else_word second) }
+{
     let Condition {
         word,
         test,
@@ -266,7 +300,9 @@ pub(crate) fn case(
     part: Part<Exp>,
     of_word: Item,
     block: Blocked<Alt>,
-) -> Result<Part<Exp>, Stop> {
+) -> Result<Part<Exp>, Stop>
+    ensures { IfOk result (λ made. made ≡ record { tree = Exp.Case word part.tree of_word (block_of block); height = max part.height block.height + 1 }) }
+{
     let Part { tree, height } = part;
     let Blocked {
         layout,

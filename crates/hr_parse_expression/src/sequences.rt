@@ -1,4 +1,19 @@
 //! Infix sequences, with `::` and a type behind them: the Haskell 98 Report, sections 3, 3.4 and 3.16.
+ghost use Rattle.std.specs.Prelude.{◌≡◌, Some, IfOk};
+ghost use Rattle.std.specs.Option.{option_map};
+ghost use Rattle.hr_layout.specs.Standing.{Standing};
+ghost use Rattle.hr_tree.specs.Names.{operator_items};
+ghost use Rattle.hr_grammar.specs.Words.{IsMinus};
+ghost use Rattle.hr_grammar.specs.Spelled.{IsOperator};
+ghost use Rattle.hr_grammar.specs.Nodes.{PatPlace};
+ghost use Rattle.hr_parse_lexeme.specs.Reads.{Accepts, Spells};
+ghost use Rattle.hr_parse_pattern.specs.Patterns.{ReadsPat};
+ghost use Rattle.hr_parse_expression.specs.declared.place.Annotations.{Annotations};
+ghost use Rattle.hr_parse_expression.specs.Lists.{MayOperands, ReadsOperands};
+ghost use Rattle.hr_parse_expression.specs.Parts.{MayTwin, ReadsOperand, ReadsSequence};
+ghost use Rattle.hr_parse_expression.specs.Places.{colons_of};
+ghost use Rattle.hr_parse_expression.specs.Steps.{ReadsValue, Steps, Wanted};
+ghost use Rattle.hr_parse_expression.specs.Waits.{WaitsOperand};
 
 use crate::machine::{
     Frame, Goal, Mixed, Step, Value, done_expression, done_pattern, mixed_of, wait,
@@ -35,7 +50,9 @@ pub(crate) fn begin_sequence(
     cursor: &mut Cursor,
     place: Place,
     minus: Option<Item>,
-) -> Step {
+) -> Step
+    ensures { (before : Standing) → Accepts IsMinus minus before cursor.old → Steps (Wanted.Sequence place.annotations) result before cursor.new }
+{
     let minus = minus_before(cursor, minus);
     let may_bind = place.may_bind && may_negate(cursor, &minus);
     let first = first_place(place, &minus).binding(may_bind);
@@ -49,7 +66,9 @@ pub(crate) fn begin_sequence(
 }
 
 /// The minus that was taken, or is there.
-fn minus_before(cursor: &mut Cursor, minus: Option<Item>) -> Option<Item> {
+fn minus_before(cursor: &mut Cursor, minus: Option<Item>) -> Option<Item>
+    ensures { (before : Standing) → Accepts IsMinus minus before cursor.old → Accepts IsMinus result before cursor.new }
+{
     match minus {
         None => accept(cursor, Mark::Minus),
         Some(minus) => Some(minus),
@@ -62,7 +81,9 @@ fn may_negate(cursor: &Cursor, minus: &Option<Item>) -> bool {
 }
 
 /// An operand alone is no sequence, and stands one node less deep.
-fn first_place(place: Place, minus: &Option<Item>) -> Place {
+fn first_place(place: Place, minus: &Option<Item>) -> Place
+    ensures { colons_of result.annotations ≡ colons_of place.annotations }
+{
     match minus {
         None => place,
         Some(_) => place.deeper(),
@@ -76,7 +97,9 @@ pub(crate) fn behind_operand(
     notes: &mut Notes,
     sequence: Sequence,
     value: Held<Value>,
-) -> Result<Step, Stop> {
+) -> Result<Step, Stop>
+    ensures { IfOk result (λ step. (before middle : Standing) → WaitsOperand sequence before middle → ReadsValue (Wanted.Operand (colons_of sequence.place.annotations)) value middle cursor.old → Steps (Wanted.Sequence sequence.place.annotations) step before cursor.new) }
+{
     match mixed_of(value)? {
         Mixed::Expression(read) => behind_expression(alloc, cursor, notes, sequence, read.take()),
         Mixed::Pattern(part) => pattern(alloc, cursor, notes, sequence, part),
@@ -90,7 +113,9 @@ fn pattern(
     notes: &mut Notes,
     sequence: Sequence,
     last: Part<Pat>,
-) -> Result<Step, Stop> {
+) -> Result<Step, Stop>
+    ensures { IfOk result (λ step. (before middle : Standing) → WaitsOperand sequence before middle → ReadsPat PatPlace.Operand last middle cursor.old → Steps (Wanted.Sequence sequence.place.annotations) step before cursor.new) }
+{
     let Sequence {
         place,
         twins,
@@ -113,7 +138,9 @@ fn behind_expression(
     notes: &mut Notes,
     sequence: Sequence,
     read: Read,
-) -> Result<Step, Stop> {
+) -> Result<Step, Stop>
+    ensures { IfOk result (λ step. (before middle : Standing) → WaitsOperand sequence before middle → ReadsOperand (colons_of sequence.place.annotations) read middle cursor.old → Steps (Wanted.Sequence sequence.place.annotations) step before cursor.new) }
+{
     if goes_on(&read) && begins_operator(kind_ahead(cursor)) {
         return joined(alloc, cursor, sequence, read);
     }
@@ -124,12 +151,9 @@ fn behind_expression(
 
 /// An operator behind an operand. Before a closing parenthesis, where a section may end, it is given back; any other
 /// one goes on. Patterns have constructor operators alone.
-fn joined(
-    alloc: Global,
-    cursor: &mut Cursor,
-    sequence: Sequence,
-    last: Read,
-) -> Result<Step, Stop> {
+fn joined(alloc: Global, cursor: &mut Cursor, sequence: Sequence, last: Read) -> Result<Step, Stop>
+    ensures { IfOk result (λ step. (before middle : Standing) → WaitsOperand sequence before middle → ReadsOperand (colons_of sequence.place.annotations) last middle cursor.old → Steps (Wanted.Sequence sequence.place.annotations) step before cursor.new) }
+{
     let place = sequence.place;
     if !place.has_section {
         nest(below(place.depth), last.height)?;
@@ -163,7 +187,9 @@ fn one_more(
     sequence: Sequence,
     last: Read,
     operator: Operator,
-) -> Result<Step, Stop> {
+) -> Result<Step, Stop>
+    ensures { IfOk result (λ step. (before middle behind : Standing) → WaitsOperand sequence before middle → ReadsOperand (colons_of sequence.place.annotations) last middle behind → Spells IsOperator operator_items operator behind cursor.old → Steps (Wanted.Sequence sequence.place.annotations) step before cursor.new) }
+{
     let Sequence {
         place,
         mut operands,
@@ -183,7 +209,9 @@ fn more_twins(
     minus: Option<&Item>,
     twin: Option<Twin>,
     operator: &Operator,
-) -> Result<Option<Operands<Pat>>, AllocError> {
+) -> Result<Option<Operands<Pat>>, AllocError>
+    ensures { IfOk result (λ all. (before middle inner outer after : Standing) → MayOperands twins before middle → Accepts IsMinus (option_map (λ item. item.now) minus) middle inner → MayTwin PatPlace.Operand twin inner outer → Spells IsOperator operator_items operator.now outer after → MayOperands all before after) }
+{
     if is_constructor_operator(operator) {
         one_operand_more(alloc, twins, minus, twin, operator)
     } else {
@@ -197,7 +225,9 @@ fn next_operand(
     place: Place,
     operands: Operands<Exp>,
     twins: Option<Operands<Pat>>,
-) -> Step {
+) -> Step
+    ensures { (before : Standing) → ReadsOperands (colons_of place.annotations) operands before cursor.old → MayOperands twins before cursor.old → Steps (Wanted.Sequence place.annotations) result before cursor.new }
+{
     let minus = accept(cursor, Mark::Minus);
     let twins = kept(cursor, twins, &minus);
     let next = place.deeper().binding(twins.is_some());
@@ -214,7 +244,9 @@ fn kept(
     cursor: &Cursor,
     twins: Option<Operands<Pat>>,
     minus: &Option<Item>,
-) -> Option<Operands<Pat>> {
+) -> Option<Operands<Pat>>
+    ensures { (before after : Standing) → MayOperands twins before after → MayOperands result before after }
+{
     if may_negate(cursor, minus) {
         twins
     } else {
@@ -223,7 +255,9 @@ fn kept(
 }
 
 /// The sequence with its last operand.
-fn ended(alloc: Global, sequence: Sequence, last: Read) -> Result<Read, Stop> {
+fn ended(alloc: Global, sequence: Sequence, last: Read) -> Result<Read, Stop>
+    ensures { IfOk result (λ read. (before middle after : Standing) → WaitsOperand sequence before middle → ReadsOperand (colons_of sequence.place.annotations) last middle after → ReadsSequence sequence.place.annotations read before after) }
+{
     let Sequence {
         operands,
         twins,
@@ -256,7 +290,9 @@ fn sectioned(
     sequence: Sequence,
     last: Read,
     operator: Operator,
-) -> Result<Read, Stop> {
+) -> Result<Read, Stop>
+    ensures { IfOk result (λ read. (before middle behind after : Standing) → WaitsOperand sequence before middle → ReadsOperand (colons_of sequence.place.annotations) last middle behind → Spells IsOperator operator_items operator behind after → ReadsSequence sequence.place.annotations read before after) }
+{
     let Sequence {
         operands,
         minus,
@@ -283,7 +319,9 @@ fn annotated(
     notes: &mut Notes,
     place: Place,
     read: Read,
-) -> Result<Step, Stop> {
+) -> Result<Step, Stop>
+    ensures { IfOk result (λ step. (before : Standing) → ReadsSequence place.annotations read before cursor.old → Steps (Wanted.Sequence place.annotations) step before cursor.new) }
+{
     match place.annotations {
         Annotations::Allowed => with_type(alloc, cursor, notes, place.depth, read),
         Annotations::Barred => Ok(done_expression(read)),
@@ -298,7 +336,9 @@ fn with_type(
     notes: &mut Notes,
     depth: u32,
     read: Read,
-) -> Result<Step, Stop> {
+) -> Result<Step, Stop>
+    ensures { IfOk result (λ step. (before : Standing) → ReadsSequence Annotations.Allowed read before cursor.old → Steps (Wanted.Sequence Annotations.Allowed) step before cursor.new) }
+{
     if !goes_on(&read) || !is_next(cursor, Mark::DoubleColon) {
         return Ok(done_expression(read));
     }

@@ -1,5 +1,17 @@
 //! Patterns that have the lexemes of an expression. What may be an expression or a pattern, as a qualifier's
 //! beginning, is read once, and both are built, until a lexeme comes that only one of them can go on with.
+ghost use Rattle.std.specs.Prelude.{◌≡◌, Some, IfOk, IfSome};
+ghost use Rattle.std.specs.Option.{option_map};
+ghost use Rattle.hr_layout.specs.Standing.{Standing};
+ghost use Rattle.hr_tree.specs.Names.{constructor_items, operator_items, variable_items};
+ghost use Rattle.hr_base.specs.declared.lexeme.Class.{Class};
+ghost use Rattle.hr_grammar.specs.Words.{IsComma, IsLiteral, IsOf, IsLeftParen, IsLeftSquare, IsMinus, IsRightParen, IsRightSquare};
+ghost use Rattle.hr_grammar.specs.Spelled.{IsConstructor, IsConstructorOperator, IsVariable};
+ghost use Rattle.hr_grammar.specs.Nodes.{PatPlace};
+ghost use Rattle.hr_parse_lexeme.specs.Reads.{Accepts, Spells, Takes};
+ghost use Rattle.hr_parse_pattern.specs.Patterns.{ReadsPat};
+ghost use Rattle.hr_parse_expression.specs.Lists.{MayApplied, MayOperands, MayParts};
+ghost use Rattle.hr_parse_expression.specs.Parts.{MayTwin, ReadsTwin};
 
 use hr_base::Item;
 use hr_parse_lexeme::{Stop, nest};
@@ -24,7 +36,9 @@ pub(crate) struct Applied {
 }
 
 /// The pattern, of which nothing more is read.
-pub(crate) fn pattern_of(alloc: Global, twin: Twin) -> Result<Part<Pat>, AllocError> {
+pub(crate) fn pattern_of(alloc: Global, twin: Twin) -> Result<Part<Pat>, AllocError>
+    ensures { IfOk result (λ part. (place : PatPlace) (before after : Standing) → ReadsTwin place twin before after → ReadsPat place part before after) }
+{
     match twin {
         Twin::Named(named) => {
             let part = leaf(alloc, Pat::Constructor(named))?;
@@ -43,7 +57,9 @@ fn operand_of(
     alloc: Global,
     minus: Option<&Item>,
     twin: Twin,
-) -> Result<Option<Part<Pat>>, AllocError> {
+) -> Result<Option<Part<Pat>>, AllocError>
+    ensures { IfOk result (λ found. IfSome found (λ part. (before middle after : Standing) → Accepts IsMinus (option_map (λ item. item.now) minus) before middle → ReadsTwin PatPlace.Operand twin middle after → ReadsPat PatPlace.Operand part before after)) }
+{
     let Some(minus) = minus else {
         let part = pattern_of(alloc, twin)?;
         return Ok(Some(part));
@@ -59,7 +75,9 @@ fn operand_of(
 }
 
 /// The application to patterns of what may be a constructor.
-pub(crate) fn head_of(alloc: Global, twin: Option<Twin>) -> Option<Applied> {
+pub(crate) fn head_of(alloc: Global, twin: Option<Twin>) -> Option<Applied>
+    ensures { (before after : Standing) → MayTwin PatPlace.Atomic twin before after → MayApplied result before after }
+{
     match twin {
         Some(Twin::Named(constructor)) => Some(Applied {
             constructor,
@@ -74,7 +92,9 @@ pub(crate) fn one_more(
     alloc: Global,
     applied: Option<Applied>,
     twin: Option<Twin>,
-) -> Result<Option<Applied>, AllocError> {
+) -> Result<Option<Applied>, AllocError>
+    ensures { IfOk result (λ all. (before middle after : Standing) → MayApplied applied before middle → MayTwin PatPlace.Atomic twin middle after → MayApplied all before after) }
+{
     let Some(applied) = applied else {
         return Ok(None);
     };
@@ -93,7 +113,9 @@ pub(crate) fn one_more(
     }))
 }
 
-pub(crate) fn applied_of(alloc: Global, head: Option<Applied>) -> Result<Option<Twin>, Stop> {
+pub(crate) fn applied_of(alloc: Global, head: Option<Applied>) -> Result<Option<Twin>, Stop>
+    ensures { IfOk result (λ twin. (before after : Standing) → MayApplied head before after → MayTwin PatPlace.Operand twin before after) }
+{
     let Some(head) = head else {
         return Ok(None);
     };
@@ -107,7 +129,9 @@ pub(crate) fn applied_of(alloc: Global, head: Option<Applied>) -> Result<Option<
 }
 
 /// No parts yet, where patterns may stand.
-pub(crate) fn no_parts(alloc: Global, may_bind: bool) -> Option<Parts<Pat>> {
+pub(crate) fn no_parts(alloc: Global, may_bind: bool) -> Option<Parts<Pat>>
+    ensures { (here : Standing) → MayParts result here here }
+{
     if may_bind {
         Some(Parts::new(alloc))
     } else {
@@ -121,7 +145,9 @@ pub(crate) fn one_part_more(
     parts: Option<Parts<Pat>>,
     twin: Option<Twin>,
     comma: &Item,
-) -> Result<Option<Parts<Pat>>, AllocError> {
+) -> Result<Option<Parts<Pat>>, AllocError>
+    ensures { IfOk result (λ all. (before middle behind after : Standing) → MayParts parts before middle → MayTwin PatPlace.Whole twin middle behind → Takes IsComma comma.now behind after → MayParts all before after) }
+{
     let Some(mut parts) = parts else {
         return Ok(None);
     };
@@ -139,7 +165,9 @@ pub(crate) fn group_of(
     left: &Item,
     twin: Option<Twin>,
     right: &Item,
-) -> Result<Option<Twin>, Stop> {
+) -> Result<Option<Twin>, Stop>
+    ensures { IfOk result (λ whole. (before inner outer after : Standing) → Takes IsLeftParen left.now before inner → MayTwin PatPlace.Whole twin inner outer → Takes IsRightParen right.now outer after → MayTwin PatPlace.Atomic whole before after) }
+{
     let Some(twin) = twin else {
         return Ok(None);
     };
@@ -181,7 +209,9 @@ pub(crate) fn list_of(
     parts: Option<Parts<Pat>>,
     twin: Option<Twin>,
     right: &Item,
-) -> Result<Option<Twin>, Stop> {
+) -> Result<Option<Twin>, Stop>
+    ensures { IfOk result (λ whole. (before inner middle outer after : Standing) → Takes IsLeftSquare left.now before inner → MayParts parts inner middle → MayTwin PatPlace.Whole twin middle outer → Takes IsRightSquare right.now outer after → MayTwin PatPlace.Atomic whole before after) }
+{
     let Some(mut parts) = parts else {
         return Ok(None);
     };
@@ -198,7 +228,9 @@ pub(crate) fn list_of(
 }
 
 /// No operands yet, where patterns may stand.
-pub(crate) fn no_operands(alloc: Global, may_bind: bool) -> Option<Operands<Pat>> {
+pub(crate) fn no_operands(alloc: Global, may_bind: bool) -> Option<Operands<Pat>>
+    ensures { (here : Standing) → MayOperands result here here }
+{
     if may_bind {
         Some(Operands::new(alloc))
     } else {
@@ -213,7 +245,9 @@ pub(crate) fn one_operand_more(
     minus: Option<&Item>,
     twin: Option<Twin>,
     operator: &Operator,
-) -> Result<Option<Operands<Pat>>, AllocError> {
+) -> Result<Option<Operands<Pat>>, AllocError>
+    ensures { IfOk result (λ all. (before middle inner outer after : Standing) → MayOperands operands before middle → Accepts IsMinus (option_map (λ item. item.now) minus) middle inner → MayTwin PatPlace.Operand twin inner outer → Spells IsConstructorOperator operator_items operator.now outer after → MayOperands all before after) }
+{
     let Some(mut operands) = operands else {
         return Ok(None);
     };
@@ -252,7 +286,9 @@ pub(crate) fn sequence_of(
     Ok(Some(Twin::Pattern(part)))
 }
 
-fn same_operator(operator: &Operator) -> Result<Operator, AllocError> {
+fn same_operator(operator: &Operator) -> Result<Operator, AllocError>
+    ensures { IfOk result (λ same. same ≡ operator.now) }
+{
     match operator {
         Operator::Symbol(symbol) => Ok(Operator::Symbol(symbol.clone()?)),
         Operator::Quoted(left, name, right) => Ok(Operator::Quoted(
@@ -264,7 +300,9 @@ fn same_operator(operator: &Operator) -> Result<Operator, AllocError> {
 }
 
 /// The same number in a pattern, where one may stand.
-pub(crate) fn number_twin(number: &Item, may_bind: bool) -> Result<Option<Twin>, AllocError> {
+pub(crate) fn number_twin(number: &Item, may_bind: bool) -> Result<Option<Twin>, AllocError>
+    ensures { IfOk result (λ twin. (before after : Standing) → Takes (IsOf Class.Integer) number.now before after → MayTwin PatPlace.Atomic twin before after) }
+{
     if !may_bind {
         return Ok(None);
     }
@@ -276,7 +314,9 @@ pub(crate) fn literal_twin(
     alloc: Global,
     literal: &Item,
     may_bind: bool,
-) -> Result<Option<Twin>, AllocError> {
+) -> Result<Option<Twin>, AllocError>
+    ensures { IfOk result (λ twin. (before after : Standing) → Takes IsLiteral literal.now before after → MayTwin PatPlace.Atomic twin before after) }
+{
     if !may_bind {
         return Ok(None);
     }
@@ -290,7 +330,9 @@ pub(crate) fn bound_twin(
     alloc: Global,
     variable: &Variable,
     may_bind: bool,
-) -> Result<Option<Twin>, AllocError> {
+) -> Result<Option<Twin>, AllocError>
+    ensures { IfOk result (λ twin. (before after : Standing) → Spells IsVariable variable_items variable.now before after → MayTwin PatPlace.Atomic twin before after) }
+{
     if !may_bind {
         return Ok(None);
     }
@@ -299,7 +341,9 @@ pub(crate) fn bound_twin(
     Ok(Some(Twin::Pattern(part)))
 }
 
-fn same_variable(variable: &Variable) -> Result<Variable, AllocError> {
+fn same_variable(variable: &Variable) -> Result<Variable, AllocError>
+    ensures { IfOk result (λ same. same ≡ variable.now) }
+{
     match variable {
         Variable::Name(name) => Ok(Variable::Name(name.clone()?)),
         Variable::Symbol(left, symbol, right) => Ok(Variable::Symbol(
@@ -311,7 +355,9 @@ fn same_variable(variable: &Variable) -> Result<Variable, AllocError> {
 }
 
 /// The same constructor in a pattern, where one may stand.
-pub(crate) fn named_twin(named: &Constructor, may_bind: bool) -> Result<Option<Twin>, AllocError> {
+pub(crate) fn named_twin(named: &Constructor, may_bind: bool) -> Result<Option<Twin>, AllocError>
+    ensures { IfOk result (λ twin. (before after : Standing) → Spells IsConstructor constructor_items named.now before after → MayTwin PatPlace.Atomic twin before after) }
+{
     if !may_bind {
         return Ok(None);
     }
@@ -319,7 +365,9 @@ pub(crate) fn named_twin(named: &Constructor, may_bind: bool) -> Result<Option<T
     Ok(Some(Twin::Named(named)))
 }
 
-fn same_constructor(named: &Constructor) -> Result<Constructor, AllocError> {
+fn same_constructor(named: &Constructor) -> Result<Constructor, AllocError>
+    ensures { IfOk result (λ same. same ≡ named.now) }
+{
     match named {
         Constructor::Name(name) => Ok(Constructor::Name(name.clone()?)),
         Constructor::Symbol(left, symbol, right) => Ok(Constructor::Symbol(
@@ -340,7 +388,9 @@ fn same_constructor(named: &Constructor) -> Result<Constructor, AllocError> {
 }
 
 /// Stops, where no pattern may stand.
-pub(crate) fn refused<T: Drop>(found: Option<T>) -> Result<T, Stop> {
+pub(crate) fn refused<T: Drop>(found: Option<T>) -> Result<T, Stop>
+    ensures { IfOk result (λ value. found ≡ Some value) }
+{
     match found {
         None => Err(Stop::Syntax),
         Some(found) => Ok(found),

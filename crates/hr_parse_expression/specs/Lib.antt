@@ -1,0 +1,12 @@
+pub mod Places
+pub mod Atoms
+pub mod Words
+pub mod Parts
+pub mod Nodes
+pub mod Lists
+pub mod Blocks
+pub mod Finds
+pub mod Mixed
+pub mod Waits
+pub mod Stacks
+pub mod Steps
