@@ -23,7 +23,7 @@ pub fn parse(alloc: Global, items: Items) -> Result<Module, ParseError> {
         Err(error) => return Err(ParseError::Memory(error)),
     };
     let mut notes = Notes::new();
-    match whole(alloc, &mut cursor, &mut notes) {
+    match read(alloc, &mut cursor, &mut notes) {
         Err(stop) => Err(refusal(alloc, &cursor, &notes, stop)),
         Ok(Whole { header, body }) => {
             let Blocked { layout, pieces, .. } = body;
@@ -38,7 +38,7 @@ pub fn parse(alloc: Global, items: Items) -> Result<Module, ParseError> {
 }
 
 /// The header, if the text begins with one, and the body, behind which nothing stands.
-fn whole(alloc: Global, cursor: &mut Cursor, notes: &mut Notes) -> Result<Whole, Stop> {
+fn read(alloc: Global, cursor: &mut Cursor, notes: &mut Notes) -> Result<Whole, Stop> {
     let header = maybe_header(alloc, cursor, notes)?;
     let body = declarations(alloc, cursor, notes, 0, true)?;
     if cursor.peek().is_some() {
@@ -55,6 +55,6 @@ fn maybe_header(
     if !is_next(cursor, Mark::Module) {
         return Ok(Held::new(None));
     }
-    let read = header(alloc, cursor, notes)?;
-    Ok(Held::new(Some(read)))
+    let found = header(alloc, cursor, notes)?;
+    Ok(Held::new(Some(found)))
 }

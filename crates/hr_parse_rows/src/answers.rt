@@ -31,12 +31,12 @@ fn said(alloc: Global, kind: &[u8], text: &[u8]) -> Result<String, AllocError> {
             if items(alloc, &tree)? != lexed {
                 return String::from_str(alloc, "torn");
             }
-            shown(alloc, kind, &tree)
+            told(alloc, kind, &tree)
         }
     }
 }
 
-fn shown(alloc: Global, kind: &[u8], tree: &Module) -> Result<String, AllocError> {
+fn told(alloc: Global, kind: &[u8], tree: &Module) -> Result<String, AllocError> {
     match kind {
         b"fits" => String::from_str(alloc, "yes"),
         b"read" => written(alloc, false, tree),
