@@ -1,0 +1,126 @@
+use crate::hostile::made_text;
+use crate::shown::{add, declaration_error, type_error, types};
+use hr_base::{Place, Pos, Text};
+use hr_exports::close;
+use hr_graph::{GraphError, ImportEdge, order};
+use hr_infer::infer;
+use hr_lexer::lex;
+use hr_parse::parse;
+use hr_prelude::{Builtin, source};
+use hr_scope::bind;
+use hr_tables::Bindings;
+use hr_tree::{Decl, Module, Piece};
+use hr_tydecl::{declarations, module_name};
+use std::alloc::{AllocError, Global};
+use std::mem::ManuallyDrop;
+
+/// What comes of the modules with these texts.
+pub fn answer(alloc: Global, fields: &[Vec<u8>]) -> Result<String, AllocError> {
+    let mut modules = ManuallyDrop::new(Vec::new(alloc));
+    for field in fields {
+        let text = made_text(alloc, field.as_slice())?;
+        if !put_module(alloc, text.as_slice(), &mut modules)? {
+            return String::from_str(alloc, "not read");
+        }
+    }
+    let own = modules.len();
+    for which in [Builtin::Prelude, Builtin::Char] {
+        if !put_module(alloc, source(which).as_bytes(), &mut modules)? {
+            return String::from_str(alloc, "Prelude not read");
+        }
+    }
+    let mut said = String::new(alloc);
+    add_answer(alloc, modules.as_slice(), own, &mut said)?;
+    Ok(said)
+}
+
+fn put_module(alloc: Global, text: &[u8], modules: &mut Vec<Module>) -> Result<bool, AllocError> {
+    let Ok(items) = lex(alloc, text) else {
+        return Ok(false);
+    };
+    match parse(alloc, items) {
+        Ok(tree) => {
+            modules.push(tree)?;
+            Ok(true)
+        }
+        Err(_) => Ok(false),
+    }
+}
+
+fn add_answer(
+    alloc: Global,
+    modules: &[Module],
+    own: usize,
+    said: &mut String,
+) -> Result<(), AllocError> {
+    let Some(order) = in_order(alloc, modules)? else {
+        return add(said, "no order");
+    };
+    let Ok(interfaces) = close(alloc, modules, order.as_slice()) else {
+        return add(said, "exports");
+    };
+    match bind(alloc, modules, &interfaces) {
+        Ok(bindings) => add_types(alloc, modules, own, &bindings, said),
+        Err(_) => add(said, "scopes"),
+    }
+}
+
+fn add_types(
+    alloc: Global,
+    modules: &[Module],
+    own: usize,
+    bindings: &Bindings,
+    said: &mut String,
+) -> Result<(), AllocError> {
+    let declared = match declarations(alloc, modules, bindings) {
+        Ok(declared) => declared,
+        Err(error) => return declaration_error(alloc, error, said),
+    };
+    match infer(alloc, modules, bindings, &declared) {
+        Ok(typing) => types(alloc, modules, own, bindings, &declared, &typing, said),
+        Err(error) => type_error(alloc, error, said),
+    }
+}
+
+/// The numbers of the modules, each behind those that it imports.
+fn in_order(alloc: Global, modules: &[Module]) -> Result<Option<Vec<usize>>, AllocError> {
+    let mut names = Vec::new(alloc);
+    for tree in modules {
+        names.push(module_name(alloc, tree)?)?;
+    }
+    let mut edges = Vec::new(alloc);
+    for (from, tree) in modules.iter().enumerate() {
+        let mut has_prelude = match names.get(from) {
+            Some(name) => name.is(b"Prelude"),
+            None => true,
+        };
+        for piece in tree.body.pieces.as_slice() {
+            if let Piece::Part(Decl::Import(import)) = piece {
+                let to = import.module.lexeme.text.clone()?;
+                has_prelude = has_prelude || to.is(b"Prelude");
+                edges.push(edge(alloc, from, to)?)?;
+            }
+        }
+        if !has_prelude {
+            edges.push(edge(alloc, from, Text::from_slice(alloc, b"Prelude")?)?)?;
+        }
+    }
+    let mut kept = Vec::new(alloc);
+    for edge in edges {
+        if edge.from < names.len() {
+            kept.push(edge)?;
+        }
+    }
+    match order(alloc, names.as_slice(), kept.as_slice()) {
+        Ok(order) => Ok(Some(order)),
+        Err(GraphError::Memory(error)) => Err(error),
+        Err(_) => Ok(None),
+    }
+}
+
+fn edge(alloc: Global, from: usize, to: Text) -> Result<ImportEdge, AllocError> {
+    let module = Text::from_slice(alloc, b"")?;
+    let pos = Pos { line: 1, col: 1 };
+    let place = Place { module, pos };
+    Ok(ImportEdge { from, to, place })
+}
