@@ -22,4 +22,5 @@ mod typing;
 
 pub use error::TypeError;
 pub use modules::infer;
+pub use order::module_order;
 pub use typing::Typing;

@@ -1,4 +1,6 @@
 //! The order in which modules are typed: each after those that it imports.
+ghost use Rattle.std.specs.Prelude.{◌<◌, length, All, IfOk, OnOk};
+
 use hr_base::{Place, Pos, Text};
 use hr_graph::{GraphError, ImportEdge, order};
 use hr_tree::{Decl, Import, Module, Piece};
@@ -31,19 +33,39 @@ fn as_they_are(alloc: Global, count: usize) -> Result<Vec<usize>, AllocError> {
     Ok(numbers)
 }
 
-/// The edges that begin at one of so many modules, which all do.
+/// The edges that begin at a module whose number is below one, which all do.
 fn within(
     alloc: Global,
     count: usize,
     edges: Vec<ImportEdge>,
-) -> Result<Vec<ImportEdge>, AllocError> {
-    let mut kept = Vec::new(alloc);
+) -> Result<Vec<ImportEdge>, AllocError>
+    ensures { IfOk result (λ kept. All (λ one. one.from < count) kept.items) }
+{
+    let mut kept = no_edges(alloc, count);
     for edge in edges {
-        if edge.from < count {
-            kept.push(edge)?;
-        }
+        put_within(count, edge, &mut kept)?;
     }
     Ok(kept)
+}
+
+#[tactic(auto, using(crate::proofs::Edges::within_none))]
+fn no_edges(alloc: Global, count: usize) -> Vec<ImportEdge>
+    ensures { All (λ one. one.from < count) result.items }
+{
+    let _none = count;
+    Vec::new(alloc)
+}
+
+#[tactic(auto, using(crate::proofs::Edges::within_more))]
+fn put_within(count: usize, edge: ImportEdge, kept: &mut Vec<ImportEdge>) -> Result<(), AllocError>
+    requires { All (λ one. one.from < count) kept.old.items }
+    ensures { OnOk result (All (λ one. one.from < count) kept.new.items) }
+{
+    if edge.from >= count {
+        return Ok(());
+    }
+    kept.push(edge)?;
+    Ok(())
 }
 
 /// The imports of a module, and that of the Prelude where it has none of it.

@@ -1,16 +1,14 @@
 use crate::hostile::made_text;
 use crate::shown::{add, declaration_error, type_error, types};
-use hr_base::{Place, Pos, Text};
 use hr_exports::close;
-use hr_graph::{GraphError, ImportEdge, order};
-use hr_infer::infer;
+use hr_infer::{infer, module_order};
 use hr_lexer::lex;
 use hr_parse::parse;
 use hr_prelude::{Builtin, source};
 use hr_scope::bind;
 use hr_tables::Bindings;
-use hr_tree::{Decl, Module, Piece};
-use hr_tydecl::{declarations, module_name};
+use hr_tree::Module;
+use hr_tydecl::declarations;
 use std::alloc::{AllocError, Global};
 use std::mem::ManuallyDrop;
 
@@ -53,9 +51,7 @@ fn add_answer(
     own: usize,
     said: &mut String,
 ) -> Result<(), AllocError> {
-    let Some(order) = in_order(alloc, modules)? else {
-        return add(said, "no order");
-    };
+    let order = module_order(alloc, modules)?;
     let Ok(interfaces) = close(alloc, modules, order.as_slice()) else {
         return add(said, "exports");
     };
@@ -80,47 +76,4 @@ fn add_types(
         Ok(typing) => types(alloc, modules, own, bindings, &declared, &typing, said),
         Err(error) => type_error(alloc, error, said),
     }
-}
-
-/// The numbers of the modules, each behind those that it imports.
-fn in_order(alloc: Global, modules: &[Module]) -> Result<Option<Vec<usize>>, AllocError> {
-    let mut names = Vec::new(alloc);
-    for tree in modules {
-        names.push(module_name(alloc, tree)?)?;
-    }
-    let mut edges = Vec::new(alloc);
-    for (from, tree) in modules.iter().enumerate() {
-        let mut has_prelude = match names.get(from) {
-            Some(name) => name.is(b"Prelude"),
-            None => true,
-        };
-        for piece in tree.body.pieces.as_slice() {
-            if let Piece::Part(Decl::Import(import)) = piece {
-                let to = import.module.lexeme.text.clone()?;
-                has_prelude = has_prelude || to.is(b"Prelude");
-                edges.push(edge(alloc, from, to)?)?;
-            }
-        }
-        if !has_prelude {
-            edges.push(edge(alloc, from, Text::from_slice(alloc, b"Prelude")?)?)?;
-        }
-    }
-    let mut kept = Vec::new(alloc);
-    for edge in edges {
-        if edge.from < names.len() {
-            kept.push(edge)?;
-        }
-    }
-    match order(alloc, names.as_slice(), kept.as_slice()) {
-        Ok(order) => Ok(Some(order)),
-        Err(GraphError::Memory(error)) => Err(error),
-        Err(_) => Ok(None),
-    }
-}
-
-fn edge(alloc: Global, from: usize, to: Text) -> Result<ImportEdge, AllocError> {
-    let module = Text::from_slice(alloc, b"")?;
-    let pos = Pos { line: 1, col: 1 };
-    let place = Place { module, pos };
-    Ok(ImportEdge { from, to, place })
 }

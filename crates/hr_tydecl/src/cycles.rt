@@ -3,7 +3,7 @@
 use crate::known::{Stated, Types, entries_of, known_at};
 use hr_base::{Binder, Seq};
 use hr_graph::components;
-use hr_typing_code::{ModuleRules, TypeMark, Written};
+use hr_typing_code::{ModuleRules, TypeMark, Written, within};
 use std::alloc::{AllocError, Global};
 
 /// For each synonym whether its type leads back to it, and the synonyms with each behind those that it mentions.
@@ -43,21 +43,6 @@ pub fn synonym_order(
     let parts = components(alloc, count, edges.as_slice())?;
     let order = flat(alloc, &parts, &mut cyclic)?;
     Ok(Order { cyclic, order })
-}
-
-/// The edges whose ends are numbers of synonyms, which all are.
-fn within(
-    alloc: Global,
-    count: usize,
-    edges: &[(usize, usize)],
-) -> Result<Vec<(usize, usize)>, AllocError> {
-    let mut kept = Vec::new(alloc);
-    for edge in edges {
-        if edge.0 < count && edge.1 < count {
-            kept.push((edge.0, edge.1))?;
-        }
-    }
-    Ok(kept)
 }
 
 fn put_mention(

@@ -1,4 +1,7 @@
 //! The groups of a block's definitions: names that use one another without a signature (Haskell 98 Report, 4.5.1).
+ghost use Rattle.std.specs.Prelude.{IfOk, OnOk};
+ghost use Rattle.hr_graph.specs.Graph.{IsWithin};
+
 use crate::declarations::{Block, Definition};
 use crate::rule::{Part, Rule, Signed, Used};
 use crate::walk::{Walk, put};
@@ -67,6 +70,7 @@ pub fn groups(
         free.as_slice(),
         entries,
     )?;
+    let edges = within(alloc, nodes.owners.len(), edges.as_slice())?;
     let parts = components(alloc, nodes.owners.len(), edges.as_slice())?;
     let mut left = held(alloc, definitions)?;
     let mut groups = Vec::new(alloc);
@@ -117,6 +121,49 @@ fn node_at(nodes: &Nodes, entries: &[Option<Binder>], lexeme: usize) -> Option<u
     }
 }
 
+/// The edges whose ends are below a number.
+pub fn within(
+    alloc: Global,
+    count: usize,
+    edges: &[(usize, usize)],
+) -> Result<Vec<(usize, usize)>, AllocError>
+    ensures { IfOk result (λ kept. IsWithin count kept.items) }
+{
+    let mut kept = no_edges(alloc, count);
+    for edge in edges {
+        put_within(count, edge.0, edge.1, &mut kept)?;
+    }
+    Ok(kept)
+}
+
+#[tactic(auto, using(crate::proofs::Within::within_none))]
+fn no_edges(alloc: Global, count: usize) -> Vec<(usize, usize)>
+    ensures { IsWithin count result.items }
+{
+    let _none = count;
+    Vec::new(alloc)
+}
+
+#[tactic(auto, using(crate::proofs::Within::within_more))]
+fn put_within(
+    count: usize,
+    from: usize,
+    to: usize,
+    kept: &mut Vec<(usize, usize)>,
+) -> Result<(), AllocError>
+    requires { IsWithin count kept.old.items }
+    ensures { OnOk result (IsWithin count kept.new.items) }
+{
+    if from >= count {
+        return Ok(());
+    }
+    if to >= count {
+        return Ok(());
+    }
+    kept.push((from, to))?;
+    Ok(())
+}
+
 /// For each node whether its name has no signature.
 fn unsigned(
     alloc: Global,
@@ -160,7 +207,7 @@ fn edges_of(
     let mut first = 0usize;
     for definition in definitions {
         let count = definition.names.len();
-        put_ring(first, count, graph, &mut edges)?;
+        put_ring(first, count, &mut edges)?;
         if count > 0 {
             put_uses(first, definition.rules.as_slice(), graph, &mut edges)?;
         }
@@ -170,29 +217,11 @@ fn edges_of(
 }
 
 /// Edges from each of so many nodes to the next, and from the last to the first.
-fn put_ring(
-    first: usize,
-    count: usize,
-    graph: Graph,
-    edges: &mut Vec<(usize, usize)>,
-) -> Result<(), AllocError> {
+fn put_ring(first: usize, count: usize, edges: &mut Vec<(usize, usize)>) -> Result<(), AllocError> {
     for place in 1..count {
         let node = first.saturating_add(place);
-        put_edge(node.saturating_sub(1), node, graph, edges)?;
-        put_edge(node, node.saturating_sub(1), graph, edges)?;
-    }
-    Ok(())
-}
-
-fn put_edge(
-    from: usize,
-    to: usize,
-    graph: Graph,
-    edges: &mut Vec<(usize, usize)>,
-) -> Result<(), AllocError> {
-    let count = graph.nodes.owners.len();
-    if from < count && to < count {
-        edges.push((from, to))?;
+        edges.push((node.saturating_sub(1), node))?;
+        edges.push((node, node.saturating_sub(1)))?;
     }
     Ok(())
 }
@@ -239,10 +268,10 @@ fn put_use(
     let Some(to) = node_at(graph.nodes, graph.entries, lexeme) else {
         return Ok(());
     };
-    match graph.free.get(to) {
-        Some(true) => put_edge(node, to, graph, edges),
-        _ => Ok(()),
+    if graph.free.get(to).copied().unwrap_or(false) {
+        edges.push((node, to))?;
     }
+    Ok(())
 }
 
 /// Definitions that are taken one by one.

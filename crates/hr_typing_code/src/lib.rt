@@ -14,7 +14,7 @@ mod types;
 mod walk;
 mod written;
 
-pub use groups::Group;
+pub use groups::{Group, within};
 pub use modules::{ModuleRules, module_rules};
 pub use rule::{Literal, Part, Rule, Signed, Used};
 pub use written::{Construction, Head, TypeMark, Written};
