@@ -17,11 +17,19 @@ pub fn module_order(alloc: Global, modules: &[Module]) -> Result<Vec<usize>, All
     for (from, module) in modules.iter().enumerate() {
         put_imports(alloc, from, module, names.as_slice(), &mut edges)?;
     }
-    let kept = within(alloc, names.len(), edges)?;
-    match order(alloc, names.as_slice(), kept.as_slice()) {
+    ordered(alloc, names.as_slice(), edges)
+}
+
+fn ordered(
+    alloc: Global,
+    names: &[Text],
+    edges: Vec<ImportEdge>,
+) -> Result<Vec<usize>, AllocError> {
+    let kept = within(alloc, names, edges)?;
+    match order(alloc, names, kept.as_slice()) {
         Ok(order) => Ok(order),
         Err(GraphError::Memory(error)) => Err(error),
-        Err(_) => as_they_are(alloc, modules.len()),
+        Err(_) => as_they_are(alloc, names.len()),
     }
 }
 
@@ -33,35 +41,32 @@ fn as_they_are(alloc: Global, count: usize) -> Result<Vec<usize>, AllocError> {
     Ok(numbers)
 }
 
-/// The edges that begin at a module whose number is below one, which all do.
+/// The edges that begin at modules of the list, which all do.
+#[tactic(auto, using(crate::proofs::Edges::within_none))]
 fn within(
     alloc: Global,
-    count: usize,
+    names: &[Text],
     edges: Vec<ImportEdge>,
 ) -> Result<Vec<ImportEdge>, AllocError>
-    ensures { IfOk result (λ kept. All (λ one. one.from < count) kept.items) }
+    ensures { IfOk result (λ kept. All (λ one. one.from < length names.now) kept.items) }
 {
-    let mut kept = no_edges(alloc, count);
+    let mut kept = Vec::new(alloc);
     for edge in edges {
-        put_within(count, edge, &mut kept)?;
+        put_within(names, edge, &mut kept)?;
     }
     Ok(kept)
 }
 
-#[tactic(auto, using(crate::proofs::Edges::within_none))]
-fn no_edges(alloc: Global, count: usize) -> Vec<ImportEdge>
-    ensures { All (λ one. one.from < count) result.items }
-{
-    let _none = count;
-    Vec::new(alloc)
-}
-
 #[tactic(auto, using(crate::proofs::Edges::within_more))]
-fn put_within(count: usize, edge: ImportEdge, kept: &mut Vec<ImportEdge>) -> Result<(), AllocError>
-    requires { All (λ one. one.from < count) kept.old.items }
-    ensures { OnOk result (All (λ one. one.from < count) kept.new.items) }
+fn put_within(
+    names: &[Text],
+    edge: ImportEdge,
+    kept: &mut Vec<ImportEdge>,
+) -> Result<(), AllocError>
+    requires { All (λ one. one.from < length names.now) kept.old.items }
+    ensures { OnOk result (All (λ one. one.from < length names.now) kept.new.items) }
 {
-    if edge.from >= count {
+    if edge.from >= names.len() {
         return Ok(());
     }
     kept.push(edge)?;

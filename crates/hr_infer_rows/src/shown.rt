@@ -129,9 +129,12 @@ fn add_mono(
     said: &mut String,
 ) -> Result<(), AllocError> {
     let size = size_of_type(alloc, ty)?;
-    if size > 60 || !has_arities(alloc, ty)? {
+    if size > 60 {
         let text = format!(in alloc; "size {size}")?;
         return add(said, text.as_str());
+    }
+    if !has_arities(alloc, ty)? {
+        return add(said, "not printed");
     }
     match print_in(alloc, ty, scope)? {
         Some(text) => add_bytes(said, text.as_slice()),

@@ -70,8 +70,9 @@ pub fn groups(
         free.as_slice(),
         entries,
     )?;
-    let edges = within(alloc, nodes.owners.len(), edges.as_slice())?;
-    let parts = components(alloc, nodes.owners.len(), edges.as_slice())?;
+    let count = nodes.owners.len();
+    let edges = within(alloc, count, edges.as_slice())?;
+    let parts = components(alloc, count, edges.as_slice())?;
     let mut left = held(alloc, definitions)?;
     let mut groups = Vec::new(alloc);
     for part in parts.as_slice() {
@@ -122,6 +123,7 @@ fn node_at(nodes: &Nodes, entries: &[Option<Binder>], lexeme: usize) -> Option<u
 }
 
 /// The edges whose ends are below a number.
+#[tactic(auto, using(crate::proofs::Within::within_none))]
 pub fn within(
     alloc: Global,
     count: usize,
@@ -129,19 +131,11 @@ pub fn within(
 ) -> Result<Vec<(usize, usize)>, AllocError>
     ensures { IfOk result (λ kept. IsWithin count kept.items) }
 {
-    let mut kept = no_edges(alloc, count);
+    let mut kept = Vec::new(alloc);
     for edge in edges {
         put_within(count, edge.0, edge.1, &mut kept)?;
     }
     Ok(kept)
-}
-
-#[tactic(auto, using(crate::proofs::Within::within_none))]
-fn no_edges(alloc: Global, count: usize) -> Vec<(usize, usize)>
-    ensures { IsWithin count result.items }
-{
-    let _none = count;
-    Vec::new(alloc)
 }
 
 #[tactic(auto, using(crate::proofs::Within::within_more))]

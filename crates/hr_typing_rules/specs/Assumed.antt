@@ -1,6 +1,6 @@
 -- What is assumed of names while something is typed: a type, and which of its variables stand for any type
 -- (Haskell 98 Report, sections 4.1.2 and 4.5).
-use Rattle.std.specs.Prelude.{◌≡◌, ◌⊎◌, ℕ, List, [], ◌∷◌, ◌++◌}
+use Rattle.std.specs.Prelude.{◌≡◌, ◌⊎◌, ℕ, List, [], ◌∷◌}
 use Rattle.hr_base.specs.declared.bind.Binder.{Binder}
 use Rattle.hr_type.specs.declared.mono.Mono.{Mono}
 use Rattle.hr_type.specs.declared.mono.Mono.TheVariants.{Var}

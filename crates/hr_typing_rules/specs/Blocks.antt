@@ -1,6 +1,6 @@
 -- The definitions of a block, and the groups in which they are typed (Haskell 98 Report, section 4.5.1): names that use
 -- one another without a signature.
-use Rattle.std.specs.Prelude.{◌≡◌, ◌⊎◌, ◌<◌, ◌≤◌, ℕ, suc, ◌+◌, List, [], ◌∷◌, ◌++◌, length, slice_get, Option, Some, None, Contains}
+use Rattle.std.specs.Prelude.{◌≡◌, ◌<◌, ◌≤◌, ℕ, suc, List, [], ◌∷◌, ◌++◌, length, slice_get, Some, Contains}
 use Rattle.hr_base.specs.declared.bind.Binder.{Binder}
 use Rattle.hr_graph.specs.Graph.{AreComponents}
 use Rattle.hr_tree.specs.declared.expressions.Decl.{Decl}
@@ -27,14 +27,15 @@ pub record Block : Type 0 where
 abbrev pub IsSigned : Block → Binder → Type 0
 IsSigned block name = (signature : Signature) × Contains block.signatures signature × (signature.name ≡ name)
 
+-- names, each with a number
+abbrev pub numbered : ℕ → List Binder → List (Binder × ℕ)
+numbered n [] = []
+numbered n (b ∷ bs) = (b, n) ∷ numbered n bs
+
 -- the names of definitions in text order, each with the number of its definition
 abbrev pub names_from : ℕ → List Definition → List (Binder × ℕ)
 names_from n [] = []
-names_from n (d ∷ ds) = named n d.names ++ names_from (suc n) ds
-  where
-    named : ℕ → List Binder → List (Binder × ℕ)
-    named n [] = []
-    named n (b ∷ bs) = (b, n) ∷ named n bs
+names_from n (d ∷ ds) = numbered n d.names ++ names_from (suc n) ds
 
 abbrev pub names_of : Block → List (Binder × ℕ)
 names_of block = names_from 0 block.definitions

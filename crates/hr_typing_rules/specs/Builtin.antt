@@ -1,5 +1,5 @@
 -- The types of syntax: lists, tuples, `()`, `->`, and of literals (Haskell 98 Report, sections 3.2, 3.7 to 3.9, 6.1).
-use Rattle.std.specs.Prelude.{◌≡◌, ℕ, suc, ◌-◌, List, [], ◌∷◌, ◌++◌, length, replicate, codes, if◌then◌else◌, ◌==◌}
+use Rattle.std.specs.Prelude.{◌≡◌, ℕ, ◌-◌, List, [], ◌∷◌, ◌++◌, length, replicate, codes}
 use Rattle.hr_base.specs.declared.bind.Entity.{Entity}
 use Rattle.hr_base.specs.declared.bind.Space.TheVariants.{TypeName}
 use Rattle.hr_base.specs.declared.lexeme.Class.{Class}

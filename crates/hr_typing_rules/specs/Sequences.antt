@@ -1,15 +1,13 @@
 -- Infix sequences, typed along their one graded tree (Haskell 98 Report, section 10.6 and 4.4.2): the parts of a
 -- sequence with their lexemes, and the type of a tree whose operands have types.
-use Rattle.std.specs.Prelude.{◌≡◌, ℕ, suc, ◌+◌, List, [], ◌∷◌, ◌++◌, length, map, slice_get, Option, Some, None}
+use Rattle.std.specs.Prelude.{◌≡◌, ℕ, List, [], ◌∷◌, map, slice_get, Some, None}
 use Rattle.hr_base.specs.declared.place.Place.{Place}
 use Rattle.hr_fixity.specs.declared.sequence.Part.{Part}
 use Rattle.hr_fixity.specs.declared.sequence.Infix.{Infix}
 use Rattle.hr_fixity.specs.declared.tree.Graded.{Graded}
 use Rattle.hr_fixity.specs.declared.tree.Graded.TheVariants as tree
 use Rattle.hr_fixity.specs.Resolved.{IsResolved}
-use Rattle.hr_tree.specs.declared.lists.Operand.{Operand}
 use Rattle.hr_tree.specs.declared.names.Operator.{Operator}
-use Rattle.hr_tree.specs.Names.{maybe_item, operator_items, maybe_operator}
 use Rattle.hr_type.specs.declared.mono.Mono.{Mono}
 use Rattle.hr_typing_rules.specs.Assumed.{Assumptions}
 use Rattle.hr_typing_rules.specs.Builtin.{number, function_of}
@@ -44,6 +42,6 @@ pub data GradedTyped (setting : Setting) (assumptions : Assumptions) (parts : Li
 
 -- a sequence has the type of its graded tree
 pub record SequenceTyped (setting : Setting) (assumptions : Assumptions) (parts : List Joined) (t : Mono) : Type 0 where
-  pub tree : Graded
-  pub resolved : IsResolved (infix_of setting parts) tree
-  pub typed : GradedTyped setting assumptions parts tree t
+  pub graded : Graded
+  pub resolved : IsResolved (infix_of setting parts) graded
+  pub typed : GradedTyped setting assumptions parts graded t

@@ -27,8 +27,8 @@ abbrev pub operator_name : ℕ → Operator → ℕ
 operator_name at (Operator.Symbol item) = at
 operator_name at (Operator.Quoted left item right) = suc at
 
-abbrev pub is_cons : Item → Type 0
-is_cons item = item.lexeme.text ≡ codes ":"
+abbrev pub IsCons : Item → Type 0
+IsCons item = item.lexeme.text ≡ codes ":"
 
 -- an instance of what is assumed of the name that a lexeme uses
 pub record NameTyped (setting : Setting) (assumptions : Assumptions) (at : ℕ) (t : Mono) : Type 0 where
@@ -40,8 +40,8 @@ pub record NameTyped (setting : Setting) (assumptions : Assumptions) (at : ℕ) 
 
 -- a constructor, or an operator that may be one: `:` is syntax
 pub data ItemTyped (setting : Setting) (assumptions : Assumptions) (at : ℕ) (item : Item) : Mono → Type 0 where
-  cons : (t : Mono) → is_cons item → ItemTyped setting assumptions at item (function_of (t ∷ list_of t ∷ []) (list_of t))
-  name : (t : Mono) → (is_cons item → ⊥) → NameTyped setting assumptions at t → ItemTyped setting assumptions at item t
+  list_constructor : (t : Mono) → IsCons item → ItemTyped setting assumptions at item (function_of (t ∷ list_of t ∷ []) (list_of t))
+  bound_name : (t : Mono) → (IsCons item → ⊥) → NameTyped setting assumptions at t → ItemTyped setting assumptions at item t
 
 pub data ConstructorTyped (setting : Setting) (assumptions : Assumptions) (at : ℕ) : Constructor → Mono → Type 0 where
   named : (item : Item) (t : Mono) → ItemTyped setting assumptions at item t → ConstructorTyped setting assumptions at (Constructor.Name item) t
@@ -51,5 +51,5 @@ pub data ConstructorTyped (setting : Setting) (assumptions : Assumptions) (at : 
   tuple : (left : Item) (commas : List Item) (right : Item) (ts : List Mono) → length ts ≡ suc (length commas) → ConstructorTyped setting assumptions at (Constructor.Tuple left commas right) (function_of ts (tuple_of ts))
 
 pub data OperatorTyped (setting : Setting) (assumptions : Assumptions) (at : ℕ) : Operator → Mono → Type 0 where
-  symbol : (item : Item) (t : Mono) → ItemTyped setting assumptions at item t → OperatorTyped setting assumptions at (Operator.Symbol item) t
-  quoted : (left item right : Item) (t : Mono) → ItemTyped setting assumptions (suc at) item t → OperatorTyped setting assumptions at (Operator.Quoted left item right) t
+  bare_operator : (item : Item) (t : Mono) → ItemTyped setting assumptions at item t → OperatorTyped setting assumptions at (Operator.Symbol item) t
+  quoted_operator : (left item right : Item) (t : Mono) → ItemTyped setting assumptions (suc at) item t → OperatorTyped setting assumptions at (Operator.Quoted left item right) t

@@ -62,9 +62,9 @@ pub data ClosesTyped (setting : Setting) (assumptions : Assumptions) : ℕ → L
 
 -- the patterns of a left side without parentheses round it
 pub data HeadTyped (setting : Setting) (assumptions : Assumptions) : ℕ → LeftHead → List Mono → Assumptions → Type 0 where
-  prefix_head : (at : ℕ) (variable : Variable) (patterns : List Pat) (ts : List Mono) (bound : Assumptions)
-    → PatsTyped setting assumptions (at + length (variable_items variable)) patterns ts bound
-    → HeadTyped setting assumptions at (LeftHead.Prefix variable patterns) ts bound
+  prefix_head : (at : ℕ) (v : Variable) (patterns : List Pat) (ts : List Mono) (bound : Assumptions)
+    → PatsTyped setting assumptions (at + length (variable_items v)) patterns ts bound
+    → HeadTyped setting assumptions at (LeftHead.Prefix v patterns) ts bound
   infix_head : (at : ℕ) (first second : Pat) (operator : Operator) (a b : Mono) (bound others : Assumptions)
     → PatTyped setting assumptions at first a bound
     → PatTyped setting assumptions (behind_pat at first + length (operator_items operator)) second b others
@@ -84,19 +84,19 @@ pub record LeftTyped (setting : Setting) (assumptions : Assumptions) (at : ℕ) 
 -- of the names of a group, those without a signature have one type inside it
 pub data Inside (block : Block) (ts : ℕ → Mono) (assumptions : Assumptions) : List ℕ → Assumptions → Type 0 where
   nothing_inside : Inside block ts assumptions [] assumptions
-  one_inside : (n of : ℕ) (name : Binder) (group : List ℕ) (inside : Assumptions) → slice_get (names_of block) n ≡ Some (name, of) → (IsSigned block name → ⊥)
-    → Inside block ts assumptions group inside → Inside block ts assumptions (n ∷ group) (assume name (only (ts n)) ∷ inside)
-  signed_inside : (n of : ℕ) (name : Binder) (group : List ℕ) (inside : Assumptions) → slice_get (names_of block) n ≡ Some (name, of) → IsSigned block name
-    → Inside block ts assumptions group inside → Inside block ts assumptions (n ∷ group) inside
+  one_inside : (n of : ℕ) (name : Binder) (numbers : List ℕ) (inside : Assumptions) → slice_get (names_of block) n ≡ Some (name, of) → (IsSigned block name → ⊥)
+    → Inside block ts assumptions numbers inside → Inside block ts assumptions (n ∷ numbers) (assume name (only (ts n)) ∷ inside)
+  signed_inside : (n of : ℕ) (name : Binder) (numbers : List ℕ) (inside : Assumptions) → slice_get (names_of block) n ≡ Some (name, of) → IsSigned block name
+    → Inside block ts assumptions numbers inside → Inside block ts assumptions (n ∷ numbers) inside
 
 -- behind a group they are generalised
 pub data Behind (block : Block) (ts : ℕ → Mono) (assumptions : Assumptions) : List ℕ → Assumptions → Type 0 where
   nothing_behind : Behind block ts assumptions [] assumptions
-  one_behind : (n of : ℕ) (name : Binder) (group : List ℕ) (assumed : Assumed) (behind : Assumptions) → slice_get (names_of block) n ≡ Some (name, of)
+  one_behind : (n of : ℕ) (name : Binder) (numbers : List ℕ) (assumed : Assumed) (behind : Assumptions) → slice_get (names_of block) n ≡ Some (name, of)
     → (IsSigned block name → ⊥) → IsGeneralised assumptions (ts n) assumed
-    → Behind block ts assumptions group behind → Behind block ts assumptions (n ∷ group) (assume name assumed ∷ behind)
-  signed_behind : (n of : ℕ) (name : Binder) (group : List ℕ) (behind : Assumptions) → slice_get (names_of block) n ≡ Some (name, of) → IsSigned block name
-    → Behind block ts assumptions group behind → Behind block ts assumptions (n ∷ group) behind
+    → Behind block ts assumptions numbers behind → Behind block ts assumptions (n ∷ numbers) (assume name assumed ∷ behind)
+  signed_behind : (n of : ℕ) (name : Binder) (numbers : List ℕ) (behind : Assumptions) → slice_get (names_of block) n ≡ Some (name, of) → IsSigned block name
+    → Behind block ts assumptions numbers behind → Behind block ts assumptions (n ∷ numbers) behind
 
 -- a signature of the block gives a name the type
 abbrev pub Declares : Setting → Block → Binder → Scheme → Type 0
@@ -104,10 +104,10 @@ Declares setting block name scheme =
     (signature : Signature) × Contains block.signatures signature × (signature.name ≡ name) × (setting.declared signature.colons ≡ Some scheme)
 
 -- a signed name of a group has its signature's type, the variables held fixed, each signature's its own
-pub record AreHeld (setting : Setting) (block : Block) (ts : ℕ → Mono) (assumptions : Assumptions) (group : List ℕ) : Type 0 where
+pub record AreHeld (setting : Setting) (block : Block) (ts : ℕ → Mono) (assumptions : Assumptions) (numbers : List ℕ) : Type 0 where
   pub fixed : ℕ → ℕ → ℕ
   pub own : (m n i j : ℕ) → fixed m i ≡ fixed n j → m ≡ n
-  pub held : (n of : ℕ) (name : Binder) (scheme : Scheme) → Contains group n → slice_get (names_of block) n ≡ Some (name, of) → Declares setting block name scheme
+  pub is_held : (n of : ℕ) (name : Binder) (scheme : Scheme) → Contains numbers n → slice_get (names_of block) n ≡ Some (name, of) → Declares setting block name scheme
     → AreFixed assumptions scheme.bound (fixed n) × (ts n ≡ held (fixed n) scheme)
 
 -- what is assumed of the signed names of a block: their signatures
@@ -167,10 +167,10 @@ mutual
     let_in : (assumptions inner : Assumptions) (at : ℕ) (exp body : Exp) (word in_word : Item) (block : tree.Block Decl) (t : Mono) → out-Exp exp ≡ Exp-F.Let word block in_word body
       → BlockTyped setting assumptions (suc at) block inner → ExpTyped setting inner (suc (suc at + length (block_items decl_items block))) body t
       → ExpTyped setting assumptions at exp t
-    if_else : (assumptions : Assumptions) (at : ℕ) (exp tested first second : Exp) (word then_word else_word : Item) (t : Mono)
-      → out-Exp exp ≡ Exp-F.If word tested then_word first else_word second → ExpTyped setting assumptions (suc at) tested test
-      → ExpTyped setting assumptions (suc (behind_exp (suc at) tested)) first t
-      → ExpTyped setting assumptions (suc (behind_exp (suc (behind_exp (suc at) tested)) first)) second t → ExpTyped setting assumptions at exp t
+    if_else : (assumptions : Assumptions) (at : ℕ) (exp asked first second : Exp) (word then_word else_word : Item) (t : Mono)
+      → out-Exp exp ≡ Exp-F.If word asked then_word first else_word second → ExpTyped setting assumptions (suc at) asked test
+      → ExpTyped setting assumptions (suc (behind_exp (suc at) asked)) first t
+      → ExpTyped setting assumptions (suc (behind_exp (suc (behind_exp (suc at) asked)) first)) second t → ExpTyped setting assumptions at exp t
     case_of : (assumptions : Assumptions) (at : ℕ) (exp part : Exp) (word of_word : Item) (block : tree.Block Alt) (s t : Mono) → out-Exp exp ≡ Exp-F.Case word part of_word block
       → ExpTyped setting assumptions (suc at) part s
       → AltsTyped setting assumptions (suc (behind_exp (suc at) part) + length (opening_items block.layout)) block.pieces s t → ExpTyped setting assumptions at exp t
@@ -210,11 +210,11 @@ mutual
       → QualifiersTyped setting assumptions at (listed ∷ qualifiers) inner
 
   pub data QualifierTyped (setting : Setting) : Assumptions → ℕ → Qualifier → Assumptions → Type 0 where
-    generator : (assumptions bound : Assumptions) (at : ℕ) (qualifier : Qualifier) (pattern : Pat) (arrow : Item) (part : Exp) (t : Mono)
-      → out-Qualifier qualifier ≡ Qualifier-F.Generator pattern arrow part → PatTyped setting assumptions at pattern t bound
-      → ExpTyped setting assumptions (suc (behind_pat at pattern)) part (list_of t) → QualifierTyped setting assumptions at qualifier (bound ++ assumptions)
-    locals : (assumptions inner : Assumptions) (at : ℕ) (qualifier : Qualifier) (word : Item) (block : tree.Block Decl) → out-Qualifier qualifier ≡ Qualifier-F.Locals word block
-      → BlockTyped setting assumptions (suc at) block inner → QualifierTyped setting assumptions at qualifier inner
+    generator : (assumptions bound : Assumptions) (at : ℕ) (qualifier : Qualifier) (p : Pat) (arrow : Item) (part : Exp) (t : Mono)
+      → out-Qualifier qualifier ≡ Qualifier-F.Generator p arrow part → PatTyped setting assumptions at p t bound
+      → ExpTyped setting assumptions (suc (behind_pat at p)) part (list_of t) → QualifierTyped setting assumptions at qualifier (bound ++ assumptions)
+    locals : (assumptions inner : Assumptions) (at : ℕ) (qualifier : Qualifier) (word : Item) (inside : tree.Block Decl) → out-Qualifier qualifier ≡ Qualifier-F.Locals word inside
+      → BlockTyped setting assumptions (suc at) inside inner → QualifierTyped setting assumptions at qualifier inner
     tested : (assumptions : Assumptions) (at : ℕ) (qualifier : Qualifier) (part : Exp) → out-Qualifier qualifier ≡ Qualifier-F.Test part
       → ExpTyped setting assumptions at part test → QualifierTyped setting assumptions at qualifier assumptions
 
@@ -249,7 +249,7 @@ mutual
 
   -- a block of declarations, and what is assumed behind it
   pub data BlockTyped (setting : Setting) : Assumptions → ℕ → tree.Block Decl → Assumptions → Type 0 where
-    block : (assumptions signed inner : Assumptions) (at : ℕ) (tree_block : tree.Block Decl) (read : Block) (groups : List (List ℕ))
+    of_groups : (assumptions signed inner : Assumptions) (at : ℕ) (tree_block : tree.Block Decl) (read : Block) (groups : List (List ℕ))
       → Reads setting (at + length (opening_items tree_block.layout)) tree_block.pieces read → Signs setting assumptions read.signatures signed
       → AreGroups setting read groups → GroupsTyped setting read signed groups inner → NamelessTyped setting inner read.definitions
       → BlockTyped setting assumptions at tree_block inner
@@ -262,12 +262,13 @@ mutual
       → GroupDefined setting read ts inside numbers → Behind read ts assumptions numbers behind
       → GroupsTyped setting read behind groups inner → GroupsTyped setting read assumptions (numbers ∷ groups) inner
 
-  -- each name of a group is defined at its type
+  -- the definition of each name of a group gives all its names their types
   pub data GroupDefined (setting : Setting) : Block → (ℕ → Mono) → Assumptions → List ℕ → Type 0 where
     no_number : (read : Block) (ts : ℕ → Mono) (assumptions : Assumptions) → GroupDefined setting read ts assumptions []
     one_number : (read : Block) (ts : ℕ → Mono) (assumptions bound : Assumptions) (n of : ℕ) (name : Binder) (definition : Definition) (numbers : List ℕ)
       → slice_get (names_of read) n ≡ Some (name, of) → slice_get read.definitions of ≡ Some definition
-      → DefinitionTyped setting assumptions definition bound → Contains bound (assume name (only (ts n)))
+      → DefinitionTyped setting assumptions definition bound
+      → ((m : ℕ) (other : Binder) → slice_get (names_of read) m ≡ Some (other, of) → Contains bound (assume other (only (ts m))))
       → GroupDefined setting read ts assumptions numbers → GroupDefined setting read ts assumptions (n ∷ numbers)
 
   -- pattern bindings without variables
