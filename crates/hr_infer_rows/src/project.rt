@@ -32,16 +32,20 @@ pub fn answer(alloc: Global, fields: &[Vec<u8>]) -> Result<String, AllocError> {
     Ok(said)
 }
 
+/// Reads a module and adds it. False says that the text has no tree.
 fn put_module(alloc: Global, text: &[u8], modules: &mut Vec<Module>) -> Result<bool, AllocError> {
     let Ok(items) = lex(alloc, text) else {
         return Ok(false);
     };
-    match parse(alloc, items) {
-        Ok(tree) => {
-            modules.push(tree)?;
-            Ok(true)
+    let Ok(tree) = parse(alloc, items) else {
+        return Ok(false);
+    };
+    match modules.push(tree) {
+        Ok(()) => Ok(true),
+        Err(failed) => {
+            let _kept = ManuallyDrop::new(failed);
+            Err(AllocError)
         }
-        Err(_) => Ok(false),
     }
 }
 
