@@ -6,3 +6,4 @@ pub mod Patterns
 pub mod Blocks
 pub mod Definitions
 pub mod Typed
+pub mod Projects
