@@ -45,11 +45,11 @@ behind_place None text = []
 behind_place (Some place) text = drop (place + 1) text
 
 -- the line and the column on the two sides of it
-abbrev pub line_of : List ℕ → List ℕ
-line_of text = before_place (colon_of text) text
+abbrev pub line_text : List ℕ → List ℕ
+line_text text = before_place (colon_of text) text
 
-abbrev pub column_of : List ℕ → List ℕ
-column_of text = behind_place (colon_of text) text
+abbrev pub column_text : List ℕ → List ℕ
+column_text text = behind_place (colon_of text) text
 
 abbrev pub pos_from : Option ℕ → Option ℕ → Option Pos
 pos_from (Some line) (Some col) = Some (record { line = line; col = col })
@@ -57,7 +57,7 @@ pos_from _ _ = None
 
 -- the position that the text is
 unfoldable pub pos_of : List ℕ → Option Pos
-pos_of text = pos_from (number_of (line_of text)) (number_of (column_of text))
+pos_of text = pos_from (number_of (line_text text)) (number_of (column_text text))
 
 abbrev pub is_large_kind : Kind → Bool
 is_large_kind Kind.Large = true

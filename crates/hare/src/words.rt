@@ -37,15 +37,13 @@ pub fn renaming_of(words: &[String]) -> Option<Renaming<'_>>
     ) {
         return None;
     }
-    match pos_of(place.as_bytes()) {
-        Some(pos) => Some(Renaming {
-            module: module.as_str(),
-            pos,
-            new: new.as_str(),
-            file: file.as_str(),
-        }),
-        None => None,
-    }
+    let pos = pos_of(place.as_bytes())?;
+    Some(Renaming {
+        module: module.as_str(),
+        pos,
+        new: new.as_str(),
+        file: file.as_str(),
+    })
 }
 
 fn are_words(verb: &str, module_name: &str, new: &str, keyword: &str) -> bool
@@ -96,13 +94,9 @@ fn has_blank(word: &str) -> bool
 fn pos_of(text: &[u8]) -> Option<Pos>
     ensures { result ≡ spec.pos_of text.now }
 {
-    match number(line_of(text)) {
-        Some(line) => match number(column_of(text)) {
-            Some(col) => Some(Pos { line, col }),
-            None => None,
-        },
-        None => None,
-    }
+    let line = number(line_text(text))?;
+    let col = number(column_text(text))?;
+    Some(Pos { line, col })
 }
 
 /// Where the first colon stands.
@@ -114,8 +108,8 @@ fn colon_of(text: &[u8]) -> Option<usize>
 }
 
 /// What stands before the first colon.
-fn line_of(text: &[u8]) -> &[u8]
-    ensures { result.now ≡ spec.line_of text.now }
+fn line_text(text: &[u8]) -> &[u8]
+    ensures { result.now ≡ spec.line_text text.now }
 {
     match colon_of(text) {
         Some(place) => text.split_at(place).0,
@@ -124,8 +118,8 @@ fn line_of(text: &[u8]) -> &[u8]
 }
 
 /// What stands behind it.
-fn column_of(text: &[u8]) -> &[u8]
-    ensures { result.now ≡ spec.column_of text.now }
+fn column_text(text: &[u8]) -> &[u8]
+    ensures { result.now ≡ spec.column_text text.now }
 {
     match colon_of(text) {
         Some(place) => text.split_at(place + 1).1,

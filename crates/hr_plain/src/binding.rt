@@ -60,13 +60,11 @@ fn behind_body(body: &Exp, lexemes: usize) -> Option<usize>
     match body {
         Exp::Variable(_) => lexemes.checked_sub(1),
         Exp::Integer(_) => lexemes.checked_sub(1),
-        Exp::Group(_, inner, _) => match lexemes.checked_sub(1) {
-            Some(left) => match behind_body(inner.get(), left) {
-                Some(behind) => behind.checked_sub(1),
-                None => None,
-            },
-            None => None,
-        },
+        Exp::Group(_, inner, _) => {
+            let left = lexemes.checked_sub(1)?;
+            let behind = behind_body(inner.get(), left)?;
+            behind.checked_sub(1)
+        }
         Exp::Apply(atoms) => {
             let mut left = lexemes;
             for atom in atoms.as_slice() {
