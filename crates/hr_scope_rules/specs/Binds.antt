@@ -8,21 +8,20 @@ use Rattle.hr_base.specs.declared.place.Spot.{Spot}
 use Rattle.hr_tree.specs.declared.modules.Module.{Module}
 use Rattle.hr_scope_rules.specs.declared.role.Role.{Role}
 use Rattle.hr_scope_rules.specs.Names.{name_of}
-use Rattle.hr_scope_rules.specs.Strips.{Region, Mark}
-use Rattle.hr_scope_rules.specs.Outline.{outline}
+use Rattle.hr_scope_rules.specs.Regions.{Region, Placed, lexemes}
 use Rattle.hr_scope_rules.specs.Modules.{module_name, own_entities, entity_of, IsPart, IsNamed}
 use Rattle.hr_scope_rules.specs.Exports.{Exports, InScope, StandsFor}
 
 -- the lexeme of that number declares the spelling in the region that has these regions round what stands in it
-pub record DeclaresIn (marks : List Mark) (regions : List Region) (space : Space) (text : List ℕ) (number : ℕ) : Type 0 where
-  pub mark : Mark
+pub record DeclaresIn (marks : List Placed) (regions : List Region) (space : Space) (text : List ℕ) (number : ℕ) : Type 0 where
+  pub mark : Placed
   pub at : slice_get marks number ≡ Some mark
   pub role_is : mark.role ≡ Role.Declares space
   pub regions_are : mark.regions ≡ regions
   pub text_is : mark.item.lexeme.text ≡ text
 
 -- the innermost region that declares the spelling; the top level, which has no region, where none does
-pub data Innermost (marks : List Mark) (space : Space) (text : List ℕ) : List Region → List Region → Type 0 where
+pub data Innermost (marks : List Placed) (space : Space) (text : List ℕ) : List Region → List Region → Type 0 where
   here : (region : Region) (outer : List Region) (number : ℕ) → DeclaresIn marks (region ∷ outer) space text number → Innermost marks space text (region ∷ outer) (region ∷ outer)
   outside : (region : Region) (outer found : List Region) → ((number : ℕ) → DeclaresIn marks (region ∷ outer) space text number → ⊥)
       → Innermost marks space text outer found → Innermost marks space text (region ∷ outer) found
@@ -32,7 +31,7 @@ pub data Innermost (marks : List Mark) (space : Space) (text : List ℕ) : List 
 abbrev pub DeclaredThere : Module → ℕ → List Region → Space → List ℕ → Binder → Type 0
 DeclaredThere tree number [] space text binder = (binder ≡ Binder.Global (entity_of (module_name tree) space text)) × Contains (own_entities tree) (entity_of (module_name tree) space text)
 DeclaredThere tree number (region ∷ outer) space text binder =
-    (item : ℕ) × DeclaresIn (outline tree) (region ∷ outer) space text item × (binder ≡ Binder.Local (record { «module» = number; item = item }))
+    (item : ℕ) × DeclaresIn (lexemes tree) (region ∷ outer) space text item × (binder ≡ Binder.Local (record { «module» = number; item = item }))
 
 -- a binder that is in scope in the module under the name
 abbrev pub Global : (modules : List Module) → ℕ → Space → Name → Binder → Type 0
@@ -47,11 +46,11 @@ Used modules number tree regions space name binder = by name.qualifier where
 
   by : Option (List ℕ) → Type 0
   by (Some qualifier) = Global modules number space name binder
-  by None = (where_found : List Region) × Innermost (outline tree) space name.text regions where_found × found where_found
+  by None = (where_found : List Region) × Innermost (lexemes tree) space name.text regions where_found × found where_found
 
 -- the lexeme of that number is spelled so
 abbrev pub IsSpelled : Module → ℕ → Name → Type 0
-IsSpelled tree number name = (mark : Mark) × (slice_get (outline tree) number ≡ Some mark) × (name_of mark.item.lexeme ≡ name)
+IsSpelled tree number name = (mark : Placed) × (slice_get (lexemes tree) number ≡ Some mark) × (name_of mark.item.lexeme ≡ name)
 
 -- an entity that the module exports which the lexeme of that number names
 abbrev pub ExportedBy : (modules : List Module) → Module → ℕ → Entity → Type 0
@@ -82,7 +81,7 @@ Listed modules number tree (Role.Hidden origin) name entity = HiddenBy modules t
 Listed modules number tree _ name entity = ⊥
 
 -- what a lexeme of a module may be bound to, by its role
-abbrev pub Candidate : (modules : List Module) → ℕ → Module → Mark → Binder → Type 0
+abbrev pub Candidate : (modules : List Module) → ℕ → Module → Placed → Binder → Type 0
 Candidate modules number tree mark binder = by mark.role where
   name : Name
   name = name_of mark.item.lexeme
@@ -98,20 +97,20 @@ Candidate modules number tree mark binder = by mark.role where
   by role = (entity : Entity) × Listed modules number tree role name entity × (binder ≡ Binder.Global entity)
 
 -- the lexeme at a spot of a project
-pub record Stands (modules : List Module) (spot : Spot) (tree : Module) (mark : Mark) : Type 0 where
+pub record Stands (modules : List Module) (spot : Spot) (tree : Module) (mark : Placed) : Type 0 where
   pub module_at : slice_get modules spot.«module» ≡ Some tree
-  pub lexeme_at : slice_get (outline tree) spot.item ≡ Some mark
+  pub lexeme_at : slice_get (lexemes tree) spot.item ≡ Some mark
 
 -- the lexeme is bound to the binder, and to no other one
 pub record Binds (modules : List Module) (spot : Spot) (binder : Binder) : Type 0 where
   pub tree : Module
-  pub mark : Mark
+  pub mark : Placed
   pub stands : Stands modules spot tree mark
   pub candidate : Candidate modules spot.«module» tree mark binder
   pub only : (other : Binder) → Candidate modules spot.«module» tree mark other → other ≡ binder
 
 -- the lexeme is no name, or one that is bound to nothing by its role
-abbrev pub IsNoName : (modules : List Module) → ℕ → Module → Mark → Type 0
+abbrev pub IsNoName : (modules : List Module) → ℕ → Module → Placed → Type 0
 IsNoName modules number tree mark = by mark.role where
   by : Role → Type 0
   by Role.Plain = Unit {0}

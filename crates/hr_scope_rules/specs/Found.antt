@@ -9,14 +9,13 @@ use Rattle.hr_base.specs.declared.bind.Space.{Space}
 use Rattle.hr_tree.specs.declared.modules.Module.{Module}
 use Rattle.hr_scope_rules.specs.declared.role.Role.{Role}
 use Rattle.hr_scope_rules.specs.Names.{name_of, plain_name}
-use Rattle.hr_scope_rules.specs.Strips.{Region, Mark}
-use Rattle.hr_scope_rules.specs.Outline.{outline}
+use Rattle.hr_scope_rules.specs.Regions.{Region, Placed, lexemes}
 use Rattle.hr_scope_rules.specs.Modules.{module_name, own_entities, entity_of}
 use Rattle.hr_scope_rules.specs.Scopes.{same_space, same_entity, is_named, is_part, all_parts, Scoped, standing, exported_from, exports_of, scope_of}
 
 abbrev pub same_regions : List Region → List Region → Bool
 same_regions [] [] = true
-same_regions (a ∷ outer) (b ∷ others) = (a.at == b.at && a.index == b.index) && same_regions outer others
+same_regions (a ∷ outer) (b ∷ others) = (a.0 == b.0 && a.1 == b.1) && same_regions outer others
 same_regions _ _ = false
 
 -- what of a mark says whether it declares a spelling somewhere
@@ -24,17 +23,17 @@ abbrev pub declares : Role → Space → Bool
 declares (Role.Declares space) wanted = same_space space wanted
 declares role wanted = false
 
-abbrev pub declares_in : List Region → Space → List ℕ → Mark → Bool
+abbrev pub declares_in : List Region → Space → List ℕ → Placed → Bool
 declares_in regions space text mark = declares mark.role space && (same_regions mark.regions regions && bytes_eq mark.item.lexeme.text text)
 
 -- the numbers of the lexemes that declare the spelling in the region
-abbrev pub declarers : List Region → Space → List ℕ → ℕ → List Mark → List ℕ
+abbrev pub declarers : List Region → Space → List ℕ → ℕ → List Placed → List ℕ
 declarers regions space text number [] = []
 declarers regions space text number (mark ∷ rest) =
     (if declares_in regions space text mark then number ∷ [] else []) ++ declarers regions space text (number + 1) rest
 
 -- the regions from the innermost one on that declares the spelling
-abbrev pub innermost : List Mark → Space → List ℕ → List Region → List Region
+abbrev pub innermost : List Placed → Space → List ℕ → List Region → List Region
 innermost marks space text [] = []
 innermost marks space text (region ∷ outer) =
     if list_any (declares_in (region ∷ outer) space text) marks then region ∷ outer else innermost marks space text outer
@@ -47,7 +46,7 @@ declared_there tree number [] space text =
     let entity = entity_of (module_name tree) space text in
     if list_any (same_entity entity) (own_entities tree) then Binder.Global entity ∷ [] else []
 declared_there tree number (region ∷ outer) space text =
-    map (λ item. Binder.Local (record { «module» = number; item = item })) (declarers (region ∷ outer) space text 0 (outline tree))
+    map (λ item. Binder.Local (record { «module» = number; item = item })) (declarers (region ∷ outer) space text 0 (lexemes tree))
 
 abbrev pub used : List Scoped → Module → ℕ → List Region → Space → Name → List Binder
 used scope tree number regions space name = by name.qualifier where
@@ -57,17 +56,17 @@ used scope tree number regions space name = by name.qualifier where
 
   by : Option (List ℕ) → List Binder
   by (Some qualifier) = globals (standing scope space name)
-  by None = found (innermost (outline tree) space name.text regions)
+  by None = found (innermost (lexemes tree) space name.text regions)
 
 -- how the lexeme of that number is spelled
-abbrev pub spelled_at : List Mark → ℕ → Name
+abbrev pub spelled_at : List Placed → ℕ → Name
 spelled_at marks number = by (slice_get marks number) where
-  by : Option Mark → Name
+  by : Option Placed → Name
   by None = plain_name []
   by (Some mark) = name_of mark.item.lexeme
 
 abbrev pub exported_by : List Module → Module → ℕ → List Entity
-exported_by modules tree lexeme = exported_from (exports_of modules) 0 modules (spelled_at (outline tree) lexeme).text
+exported_by modules tree lexeme = exported_from (exports_of modules) 0 modules (spelled_at (lexemes tree) lexeme).text
 
 abbrev pub is_constructor : Entity → Bool
 is_constructor entity = same_space entity.space Space.Constructor
@@ -89,15 +88,15 @@ parts_named modules types text entities =
 abbrev pub listed : List Module → Module → Role → Name → List Entity
 listed modules tree (Role.Exported space) name = standing (scope_of modules tree) space name
 listed modules tree (Role.ExportedPart ty) name =
-    parts_named modules (standing (scope_of modules tree) Space.TypeName (spelled_at (outline tree) ty)) name.text (map (λ one. one.1) (scope_of modules tree))
+    parts_named modules (standing (scope_of modules tree) Space.TypeName (spelled_at (lexemes tree) ty)) name.text (map (λ one. one.1) (scope_of modules tree))
 listed modules tree (Role.Imported origin space) name = filter (is_named space name.text) (exported_by modules tree origin)
 listed modules tree (Role.ImportedPart origin ty) name =
-    parts_named modules (filter (is_named Space.TypeName (spelled_at (outline tree) ty).text) (exported_by modules tree origin)) name.text (exported_by modules tree origin)
+    parts_named modules (filter (is_named Space.TypeName (spelled_at (lexemes tree) ty).text) (exported_by modules tree origin)) name.text (exported_by modules tree origin)
 listed modules tree (Role.Hidden origin) name = hidden (exported_by modules tree origin) name.text
 listed modules tree _ name = []
 
 -- the binders that a lexeme may have
-abbrev pub candidates : List Module → ℕ → Module → Mark → List Binder
+abbrev pub candidates : List Module → ℕ → Module → Placed → List Binder
 candidates modules number tree mark = by mark.role where
   name : Name
   name = name_of mark.item.lexeme
@@ -114,4 +113,4 @@ candidates modules number tree mark = by mark.role where
 
 -- the binders of all lexemes of a module, in order
 abbrev pub all_candidates : List Module → ℕ → Module → List (List Binder)
-all_candidates modules number tree = map (candidates modules number tree) (outline tree)
+all_candidates modules number tree = map (candidates modules number tree) (lexemes tree)

@@ -1,5 +1,6 @@
 pub mod Binds
 pub mod Doubles
+pub mod Events
 pub mod Exports
 pub mod Found
 pub mod Imports
@@ -8,5 +9,6 @@ pub mod Modules
 pub mod Names
 pub mod Outline
 pub mod Phrases
+pub mod Regions
+pub mod Roles
 pub mod Scopes
-pub mod Strips

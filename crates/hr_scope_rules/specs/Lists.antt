@@ -1,5 +1,8 @@
--- The roles in the header of a module and in imports: the Haskell 98 Report, sections 5.2 and 5.3.
-use Rattle.std.specs.Prelude.{ℕ, ◌+◌, [], ◌∷◌, length, Option, Some, None}
+-- The header of a module and imports, read from left to right: the Haskell 98 Report, sections 5.2 and 5.3. A type with
+-- its constructors begins a construct, and so does the name of the module in an import: what the list names is found
+-- by their lexemes.
+use Rattle.std.specs.Prelude.{List, [], ◌∷◌, ◌++◌, Option, Some, None}
+use Rattle.std.specs.List.{flat_map}
 use Rattle.hr_base.specs.declared.bind.Space.{Space}
 use Rattle.hr_base.specs.declared.lexeme.Item.{Item}
 use Rattle.hr_tree.specs.declared.modules.NameList.{NameList}
@@ -10,61 +13,54 @@ use Rattle.hr_tree.specs.declared.modules.Import.{Import}
 use Rattle.hr_tree.specs.declared.modules.ImportNames.{ImportNames}
 use Rattle.hr_tree.specs.declared.modules.Imported.{Imported}
 use Rattle.hr_tree.specs.declared.modules.Header.{Header}
-use Rattle.hr_tree.specs.Names.{maybe_item}
 use Rattle.hr_tree.specs.Yields.{maybe_alias}
-use Rattle.hr_scope_rules.specs.declared.role.Role.{Role}
-use Rattle.hr_scope_rules.specs.Names.{role_by}
-use Rattle.hr_scope_rules.specs.Strips.{Strip, bare, one, ◌▷◌, placed}
-use Rattle.hr_scope_rules.specs.Phrases.{variable_strip, constructor_strip, listed_row}
+use Rattle.hr_scope_rules.specs.declared.naming.Naming.{Naming}
+use Rattle.hr_scope_rules.specs.Events.{Event, plain, bare}
+use Rattle.hr_scope_rules.specs.Phrases.{variable_events, constructor_events, listed_events, maybe_events}
 
--- a field has the role of a constructor that is named with the type
-abbrev pub member_strip : Role → Member → Strip
-member_strip role (Member.Constructor constructor) = constructor_strip (λ item. role_by (λ space. role) item.lexeme.class) constructor
-member_strip role (Member.Field variable) = variable_strip (λ item. role) variable
+-- a field stands as a constructor does that is named with the type
+abbrev pub member_events : Naming → Member → List Event
+member_events naming (Member.Constructor constructor) = constructor_events naming constructor
+member_events naming (Member.Field variable) = variable_events naming variable
 
--- of what is named with a type
-abbrev pub members_strip : Role → Option Members → Strip
-members_strip role None = bare []
-members_strip role (Some (Members.All left dots right)) = bare (left ∷ dots ∷ right ∷ [])
-members_strip role (Some (Members.Named left list right)) =
-    bare (left ∷ []) ▷ listed_row (member_strip role) list ▷ bare (right ∷ [])
+abbrev pub members_events : Naming → Option Members → List Event
+members_events naming None = []
+members_events naming (Some (Members.All left dots right)) = plain left ∷ plain dots ∷ plain right ∷ []
+members_events naming (Some (Members.Named left list right)) = plain left ∷ (flat_map (listed_events (member_events naming)) list ++ plain right ∷ [])
 
--- an export item; the constructors of a type are found by the type's lexeme
-abbrev pub export_strip : Export → Strip
-export_strip (Export.Variable variable) = variable_strip (λ item. Role.Exported Space.Value) variable
-export_strip (Export.Type name members) = placed (λ start regions. one (Role.Exported Space.TypeName) name ▷ members_strip (Role.ExportedPart start) members)
-export_strip (Export.«Module» word name) = bare (word ∷ name ∷ [])
+abbrev pub export_events : Export → List Event
+export_events (Export.Variable variable) = variable_events (Naming.Exported Space.Value) variable
+export_events (Export.Type name members) = Event.Begin ∷ Event.Lexeme (Naming.Exported Space.TypeName) name ∷ (members_events Naming.ExportedPart members ++ Event.End ∷ [])
+export_events (Export.«Module» word name) = plain word ∷ plain name ∷ []
 
-abbrev pub names_strip : {T : Type 0} → (T → Strip) → NameList T → Strip
-names_strip of names = bare (names.left ∷ []) ▷ listed_row of names.list ▷ bare (maybe_item names.last_comma) ▷ bare (names.right ∷ [])
+abbrev pub names_events : {T : Type 0} → (T → List Event) → NameList T → List Event
+names_events of names = plain names.left ∷ (flat_map (listed_events of) names.list ++ (maybe_events names.last_comma ++ plain names.right ∷ []))
 
--- an item of an import list, given the number of the lexeme that names the module
-abbrev pub imported_strip : ℕ → Imported → Strip
-imported_strip origin (Imported.Variable variable) = variable_strip (λ item. Role.Imported origin Space.Value) variable
-imported_strip origin (Imported.Type name members) =
-    placed (λ start regions. one (Role.Imported origin Space.TypeName) name ▷ members_strip (Role.ImportedPart origin start) members)
+abbrev pub imported_events : Imported → List Event
+imported_events (Imported.Variable variable) = variable_events Naming.Imported variable
+imported_events (Imported.Type name members) = Event.Begin ∷ Event.Lexeme Naming.ImportedType name ∷ (members_events Naming.ImportedPart members ++ Event.End ∷ [])
 
-abbrev pub hidden_strip : ℕ → Imported → Strip
-hidden_strip origin (Imported.Variable variable) = variable_strip (λ item. Role.Hidden origin) variable
-hidden_strip origin (Imported.Type name members) = one (Role.Hidden origin) name ▷ members_strip (Role.Hidden origin) members
+abbrev pub hidden_events : Imported → List Event
+hidden_events (Imported.Variable variable) = variable_events Naming.Hidden variable
+hidden_events (Imported.Type name members) = Event.Lexeme Naming.Hidden name ∷ members_events Naming.Hidden members
 
-abbrev pub import_names_strip : ℕ → Option ImportNames → Strip
-import_names_strip origin None = bare []
-import_names_strip origin (Some names) = by names.hiding where
-  by : Option Item → Strip
-  by None = names_strip (imported_strip origin) names.list
-  by (Some word) = bare (word ∷ []) ▷ names_strip (hidden_strip origin) names.list
+abbrev pub listing_events : Option Item → NameList Imported → List Event
+listing_events None list = names_events imported_events list
+listing_events (Some hiding) list = plain hiding ∷ names_events hidden_events list
 
-abbrev pub import_strip : Import → Strip
-import_strip import =
-    let opening = import.word ∷ maybe_item import.qualified in
-    placed (λ start regions.
-    bare opening ▷ bare (import.«module» ∷ []) ▷ bare (maybe_alias import.alias) ▷ import_names_strip (start + length opening) import.names)
+abbrev pub import_names_events : Option ImportNames → List Event
+import_names_events None = []
+import_names_events (Some names) = listing_events names.hiding names.list
 
-abbrev pub exports_strip : Option (NameList Export) → Strip
-exports_strip None = bare []
-exports_strip (Some names) = names_strip export_strip names
+abbrev pub import_events : Import → List Event
+import_events import =
+    plain import.word ∷ (maybe_events import.qualified ++ Event.Begin ∷ plain import.«module»
+    ∷ (bare (maybe_alias import.alias) ++ (import_names_events import.names ++ Event.End ∷ [])))
 
-abbrev pub header_strip : Option Header → Strip
-header_strip None = bare []
-header_strip (Some header) = bare (header.word ∷ header.name ∷ []) ▷ exports_strip header.exports ▷ bare (header.opening ∷ [])
+abbrev pub exports_events : Option (NameList Export) → List Event
+exports_events None = []
+exports_events (Some names) = names_events export_events names
+
+abbrev pub header_events : Option Header → List Event
+header_events None = []
+header_events (Some header) = plain header.word ∷ plain header.name ∷ (exports_events header.exports ++ plain header.opening ∷ [])

@@ -10,8 +10,7 @@ use Rattle.hr_tree.specs.declared.names.Constructor.{Constructor}
 use Rattle.hr_tree.specs.declared.modules.Header.{Header}
 use Rattle.hr_tree.specs.declared.modules.Module.{Module}
 use Rattle.hr_scope_rules.specs.declared.role.Role.{Role}
-use Rattle.hr_scope_rules.specs.Strips.{Region, Mark}
-use Rattle.hr_scope_rules.specs.Outline.{outline}
+use Rattle.hr_scope_rules.specs.Regions.{Region, Placed, lexemes}
 
 abbrev pub main_module : List ℕ
 main_module = codes "Main"
@@ -40,7 +39,7 @@ abbrev pub declared_by : List ℕ → Role → List Region → List ℕ → List
 declared_by origin (Role.Declares space) [] text = entity_of origin space text ∷ []
 declared_by origin role regions text = []
 
-abbrev pub declared_at : List ℕ → Mark → List Entity
+abbrev pub declared_at : List ℕ → Placed → List Entity
 declared_at origin mark = declared_by origin mark.role mark.regions mark.item.lexeme.text
 
 -- Int and Char are types of Prelude, though nothing declares them
@@ -50,10 +49,10 @@ undeclared_of origin =
 
 -- the top-level things of a module
 abbrev pub own_entities : Module → List Entity
-own_entities tree = undeclared_of (module_name tree) ++ flat_map (declared_at (module_name tree)) (outline tree)
+own_entities tree = undeclared_of (module_name tree) ++ flat_map (declared_at (module_name tree)) (lexemes tree)
 
 -- each constructor of the module with its type: the type's declaration is the last one of a type before it
-abbrev pub constructed : List ℕ → List Mark → List (List ℕ × List ℕ)
+abbrev pub constructed : List ℕ → List Placed → List (List ℕ × List ℕ)
 constructed ty [] = []
 constructed ty (mark ∷ rest) = by mark.role mark.regions (constructed mark.item.lexeme.text rest) (constructed ty rest) where
   by : Role → List Region → List (List ℕ × List ℕ) → List (List ℕ × List ℕ) → List (List ℕ × List ℕ)
@@ -68,7 +67,7 @@ pub record IsPart (modules : List Module) (ty : Entity) (part : Entity) : Type 0
   pub at : slice_get modules number ≡ Some tree
   pub type_is : ty ≡ entity_of (module_name tree) Space.TypeName ty.text
   pub part_is : part ≡ entity_of (module_name tree) Space.Constructor part.text
-  pub constructed_by : Contains (constructed [] (outline tree)) (ty.text, part.text)
+  pub constructed_by : Contains (constructed [] (lexemes tree)) (ty.text, part.text)
 
 -- the spelling of a constructor that a list names
 abbrev pub constructor_text : Constructor → List ℕ

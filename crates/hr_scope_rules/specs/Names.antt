@@ -1,11 +1,8 @@
 -- Names as lexemes spell them: the Haskell 98 Report, sections 2.4 and 5.5.1.
 use Rattle.std.specs.Prelude.{ℕ, ◌==◌, if◌then◌else◌, List, [], ◌∷◌, Some, None}
 use Rattle.hr_base.specs.declared.bind.Name.{Name}
-use Rattle.hr_base.specs.declared.bind.Space.{Space}
 use Rattle.hr_base.specs.declared.lexeme.Class.{Class}
 use Rattle.hr_base.specs.declared.lexeme.Lexeme.{Lexeme}
-use Rattle.hr_base.specs.declared.lexeme.Item.{Item}
-use Rattle.hr_scope_rules.specs.declared.role.Role.{Role}
 
 -- what stands before the first dot, and what stands behind it
 abbrev pub before_dot : List ℕ → List ℕ
@@ -35,29 +32,3 @@ name_by _ text = plain_name text
 
 abbrev pub name_of : Lexeme → Name
 name_of lexeme = name_by lexeme.class lexeme.text
-
--- the role of a lexeme that is a name, given those of a variable and of a constructor; a reserved operator, as
--- `:` or `->`, is no name
-abbrev pub role_by : (Space → Role) → Class → Role
-role_by role Class.VarId = role Space.Value
-role_by role Class.QVarId = role Space.Value
-role_by role Class.VarSym = role Space.Value
-role_by role Class.QVarSym = role Space.Value
-role_by role Class.ConId = role Space.Constructor
-role_by role Class.QConId = role Space.Constructor
-role_by role Class.ConSym = role Space.Constructor
-role_by role Class.QConSym = role Space.Constructor
-role_by role _ = Role.Plain
-
-abbrev pub use_of : Item → Role
-use_of item = role_by Role.Uses item.lexeme.class
-
-abbrev pub fixed_of : Item → Role
-fixed_of item = role_by Role.Fixes item.lexeme.class
-
--- the name of a type is spelled as a constructor's
-abbrev pub type_use : Item → Role
-type_use item = role_by (λ space. Role.Uses Space.TypeName) item.lexeme.class
-
-abbrev pub constructed : Item → Role
-constructed item = role_by Role.Declares item.lexeme.class

@@ -1,8 +1,8 @@
--- The roles of all lexemes of a module, and the regions round them: the Haskell 98 Report, chapters 3 and 4. A
--- region is a `let` or `where` block, or the patterns of an equation, a lambda, an alternative or a qualifier.
-use Rattle.std.specs.Prelude.{ℕ, ◌+◌, Bool, true, false, if◌then◌else◌, List, [], ◌∷◌, map, Option, Some, None}
+-- A module read from left to right: the Haskell 98 Report, chapters 3 and 4. A region is a `let` or `where` block, or
+-- the patterns of an equation, a lambda, an alternative or a qualifier.
+use Rattle.std.specs.Prelude.{ℕ, ◌+◌, Bool, true, false, if◌then◌else◌, List, [], ◌∷◌, ◌++◌, map, Option, Some, None}
+use Rattle.std.specs.List.{flat_map}
 use Rattle.std.specs.Str.{bytes_eq}
-use Rattle.hr_base.specs.declared.bind.Space.{Space}
 use Rattle.hr_tree.specs.declared.lists.Listed.{Listed}
 use Rattle.hr_tree.specs.declared.lists.Piece.{Piece}
 use Rattle.hr_tree.specs.declared.lists.Block.{Block}
@@ -15,184 +15,190 @@ use Rattle.hr_tree.specs.declared.declarations.Closed.{Closed}
 use Rattle.hr_tree.specs.declared.declarations.Body.{Body}
 use Rattle.hr_tree.specs.declared.declarations.Guarded.{Guarded}
 use Rattle.hr_tree.specs.declared.declarations.Where.{Where}
+use Rattle.hr_tree.specs.declared.expressions.Exp.{Exp}
 use Rattle.hr_tree.specs.declared.expressions.Decl.{Decl}
+use Rattle.hr_tree.specs.declared.expressions.Qualifier.{Qualifier}
+use Rattle.hr_tree.specs.declared.expressions.Alt.{Alt}
 use Rattle.hr_tree.specs.declared.expressions.Decl.TheOpen.{Decl-F, Exp-F, Qualifier-F, Alt-F}
-use Rattle.hr_tree.specs.declared.expressions.Decl.TheFolds.{fold-Decl}
+use Rattle.hr_tree.specs.declared.expressions.Decl.TheFolds.{fold-Decl, fold-Exp, fold-Qualifier, fold-Alt}
 use Rattle.hr_tree.specs.declared.modules.Module.{Module}
-use Rattle.hr_tree.specs.Names.{maybe_item}
 use Rattle.hr_tree.specs.Lists.{opening_items, closing_items}
-use Rattle.hr_scope_rules.specs.declared.role.Role.{Role}
-use Rattle.hr_scope_rules.specs.Names.{use_of, fixed_of, constructed}
-use Rattle.hr_scope_rules.specs.Strips.{Region, Mark, Strip, bare, one, ◌▷◌, row, within, placed, entered}
-use Rattle.hr_scope_rules.specs.Phrases.{variable_strip, constructor_strip, operator_strip, variable_text, operator_text, listed_row, done, operand_strip, field_strip, ty_strip, pat_strip, pats_strip}
-use Rattle.hr_scope_rules.specs.Lists.{import_strip, header_strip}
+use Rattle.hr_scope_rules.specs.declared.naming.Naming.{Naming}
+use Rattle.hr_scope_rules.specs.Events.{Event, Outlined, read_all, plain, bare}
+use Rattle.hr_scope_rules.specs.Phrases.{variable_events, constructor_events, operator_events, variable_text, operator_text, listed_events, maybe_events, done, operand_events, field_events, ty_events, pat_events}
+use Rattle.hr_scope_rules.specs.Lists.{import_events, header_events}
 
--- a declaration: the name where it is an equation with patterns, and its stretch, given whether it goes on the
+-- a declaration: the name where it is an equation with patterns, and what is read of it, given whether it goes on the
 -- declaration before it
 pub record Declared : Type 0 where
   pub equation : Option (List ℕ)
-  pub strip : Bool → Strip
+  pub events : Bool → List Event
 
-abbrev pub alone : Strip → Declared
-alone strip = record { equation = None; strip = λ goes_on. strip }
+abbrev pub alone : List Event → Declared
+alone events = record { equation = None; events = λ goes_on. events }
 
--- a qualifier: whether it opens a region, and its stretch, given the regions round it and those that it opens
+-- a qualifier: whether it opens a region, and what is read of it, given that region's number
 pub record Qualified : Type 0 where
   pub opens : Bool
-  pub strip : List Region → Strip
+  pub events : ℕ → List Event
 
 -- equations of one name with nothing but empty parts between them are one declaration (section 4.4.3.1)
 abbrev pub goes_on : Option (List ℕ) → Option (List ℕ) → Bool
 goes_on (Some before) (Some now) = bytes_eq before now
 goes_on _ _ = false
 
-abbrev pub pieces_strip : Option (List ℕ) → List (Piece Declared) → Strip
-pieces_strip before [] = bare []
-pieces_strip before (Piece.Semicolon item ∷ rest) = bare (item ∷ []) ▷ pieces_strip before rest
-pieces_strip before (Piece.Part declared ∷ rest) = declared.strip (goes_on before declared.equation) ▷ pieces_strip declared.equation rest
+abbrev pub pieces_events : Option (List ℕ) → List (Piece Declared) → List Event
+pieces_events before [] = []
+pieces_events before (Piece.Semicolon item ∷ rest) = plain item ∷ pieces_events before rest
+pieces_events before (Piece.Part declared ∷ rest) = declared.events (goes_on before declared.equation) ++ pieces_events declared.equation rest
 
-abbrev pub block_strip : Block Declared → Strip
-block_strip block = bare (opening_items block.layout) ▷ pieces_strip None block.pieces ▷ bare (closing_items block.layout)
+abbrev pub block_events : Block Declared → List Event
+block_events block = bare (opening_items block.layout) ++ (pieces_events None block.pieces ++ bare (closing_items block.layout))
 
-abbrev pub alternative_strip : Piece Strip → Strip
-alternative_strip (Piece.Semicolon item) = bare (item ∷ [])
-alternative_strip (Piece.Part strip) = strip
+abbrev pub alternative_events : Piece (List Event) → List Event
+alternative_events (Piece.Semicolon item) = plain item ∷ []
+alternative_events (Piece.Part events) = events
 
-abbrev pub alternatives_strip : Block Strip → Strip
-alternatives_strip block = bare (opening_items block.layout) ▷ row (map alternative_strip block.pieces) ▷ bare (closing_items block.layout)
+abbrev pub alternatives_events : Block (List Event) → List Event
+alternatives_events block = bare (opening_items block.layout) ++ (flat_map alternative_events block.pieces ++ bare (closing_items block.layout))
 
-abbrev pub guarded_strip : Guarded Strip → Strip
-guarded_strip guarded = bare (guarded.bar ∷ []) ▷ guarded.guard ▷ bare (guarded.mark ∷ []) ▷ guarded.body
+abbrev pub guarded_events : Guarded (List Event) → List Event
+guarded_events guarded = plain guarded.bar ∷ (guarded.guard ++ plain guarded.mark ∷ guarded.body)
 
-abbrev pub body_strip : Body Strip → Strip
-body_strip (Body.Plain mark body) = bare (mark ∷ []) ▷ body
-body_strip (Body.Guarded list) = row (map guarded_strip list)
+abbrev pub body_events : Body (List Event) → List Event
+body_events (Body.Plain mark body) = plain mark ∷ body
+body_events (Body.Guarded list) = flat_map guarded_events list
 
-abbrev pub where_strip : Option (Where Declared) → Strip
-where_strip None = bare []
-where_strip (Some locals) = bare (locals.word ∷ []) ▷ block_strip locals.block
-
--- the region of a `where`, of a construct that begins there: it is round all guards and bodies (section 4.4.3)
-abbrev pub in_where : Option (Where Declared) → ℕ → List Region → List Region
-in_where None start regions = regions
-in_where (Some locals) start regions = entered start 1 regions
+-- a body with its `where`, whose region is round all guards and bodies (section 4.4.3)
+abbrev pub rest_events : Body (List Event) → Option (Where Declared) → List Event
+rest_events body None = body_events body
+rest_events body (Some locals) = Event.Enter 1 ∷ (body_events body ++ plain locals.word ∷ (block_events locals.block ++ Event.Leave ∷ []))
 
 -- the head of a type's declaration: its variables are in a region of their own
-abbrev pub head_strip : TypeHead → Strip
-head_strip head =
-    placed (λ start regions. one (Role.Declares Space.TypeName) head.name ▷ within (entered start 0 regions) (row (map (one Role.Parameter) head.variables)))
+abbrev pub head_events : TypeHead → List Event
+head_events head = Event.Begin ∷ Event.Lexeme Naming.Headed head.name ∷ Event.Enter 0 ∷ (map (Event.Lexeme Naming.Parameter) head.variables ++ Event.Leave ∷ Event.End ∷ [])
 
-abbrev pub field_type_strip : FieldType → Strip
-field_type_strip field = listed_row (variable_strip (λ item. Role.Plain)) field.names ▷ bare (field.colons ∷ []) ▷ ty_strip field.ty
+abbrev pub field_type_events : FieldType → List Event
+field_type_events field = flat_map (listed_events (variable_events Naming.Plain)) field.names ++ (plain field.colons ∷ ty_events field.ty)
 
-abbrev pub construction_strip : Construction → Strip
-construction_strip (Construction.Prefix constructor types) = constructor_strip constructed constructor ▷ row (map ty_strip types)
-construction_strip (Construction.Infix first operator second) = ty_strip first ▷ operator_strip constructed operator ▷ ty_strip second
-construction_strip (Construction.Fields constructor left fields right) =
-    constructor_strip constructed constructor ▷ bare (left ∷ []) ▷ listed_row field_type_strip fields ▷ bare (right ∷ [])
+abbrev pub construction_events : Construction → List Event
+construction_events (Construction.Prefix constructor types) = constructor_events Naming.Constructed constructor ++ flat_map ty_events types
+construction_events (Construction.Infix first operator second) = ty_events first ++ (operator_events Naming.Constructed operator ++ ty_events second)
+construction_events (Construction.Fields constructor left fields right) =
+    constructor_events Naming.Constructed constructor ++ plain left ∷ (flat_map (listed_events field_type_events) fields ++ plain right ∷ [])
 
--- the left side of an equation: its variable is declared outside of the region of its patterns
-abbrev pub left_head_strip : Role → List Region → LeftHead → Strip
-left_head_strip role inside (LeftHead.Prefix variable patterns) = variable_strip (λ item. role) variable ▷ within inside (pats_strip patterns)
-left_head_strip role inside (LeftHead.Infix first operator second) =
-    within inside (pat_strip first) ▷ operator_strip (λ item. role) operator ▷ within inside (pat_strip second)
+-- the left side of an equation, behind which its region is open: its variable is declared outside of that region
+abbrev pub left_head_events : Naming → LeftHead → List Event
+left_head_events naming (LeftHead.Prefix variable patterns) = variable_events naming variable ++ Event.Enter 0 ∷ flat_map pat_events patterns
+left_head_events naming (LeftHead.Infix first operator second) =
+    Event.Enter 0 ∷ (pat_events first ++ Event.Leave ∷ (operator_events naming operator ++ Event.Enter 0 ∷ pat_events second))
 
-abbrev pub closed_strip : Closed → Strip
-closed_strip closed = bare (closed.right ∷ []) ▷ pats_strip closed.patterns
+abbrev pub closed_events : Closed → List Event
+closed_events closed = plain closed.right ∷ flat_map pat_events closed.patterns
 
-abbrev pub left_side_strip : Role → List Region → LeftSide → Strip
-left_side_strip role inside left = bare left.opens ▷ left_head_strip role inside left.head ▷ within inside (row (map closed_strip left.closes))
+abbrev pub left_side_events : Naming → LeftSide → List Event
+left_side_events naming left = bare left.opens ++ (left_head_events naming left.head ++ flat_map closed_events left.closes)
 
-abbrev pub left_text : LeftSide → List ℕ
-left_text left = by left.head where
-  by : LeftHead → List ℕ
-  by (LeftHead.Prefix variable patterns) = variable_text variable
-  by (LeftHead.Infix first operator second) = operator_text operator
+abbrev pub head_text : LeftHead → List ℕ
+head_text (LeftHead.Prefix variable patterns) = variable_text variable
+head_text (LeftHead.Infix first operator second) = operator_text operator
 
-abbrev pub decl_layer : Decl-F Declared Strip Qualified Strip → Declared
-decl_layer (Decl-F.Import import) = alone (import_strip import)
-decl_layer (Decl-F.Synonym word head equals ty) = alone (bare (word ∷ []) ▷ head_strip head ▷ bare (equals ∷ []) ▷ ty_strip ty)
-decl_layer (Decl-F.Data word head equals constructions) = alone (bare (word ∷ []) ▷ head_strip head ▷ bare (equals ∷ []) ▷ listed_row construction_strip constructions)
-decl_layer (Decl-F.Newtype word head equals construction) = alone (bare (word ∷ []) ▷ head_strip head ▷ bare (equals ∷ []) ▷ construction_strip construction)
-decl_layer (Decl-F.Signature names colons ty) =
-    alone (listed_row (variable_strip (λ item. Role.Signs)) names ▷ bare (colons ∷ []) ▷ ty_strip ty)
-decl_layer (Decl-F.Fixity word level operators) =
-    alone (bare (word ∷ maybe_item level) ▷ listed_row (operator_strip fixed_of) operators)
+abbrev pub decl_layer : Decl-F Declared (List Event) Qualified (List Event) → Declared
+decl_layer (Decl-F.Import import) = alone (import_events import)
+decl_layer (Decl-F.Synonym word head equals ty) = alone (plain word ∷ (head_events head ++ plain equals ∷ ty_events ty))
+decl_layer (Decl-F.Data word head equals constructions) =
+    alone (plain word ∷ (head_events head ++ plain equals ∷ flat_map (listed_events construction_events) constructions))
+decl_layer (Decl-F.Newtype word head equals construction) = alone (plain word ∷ (head_events head ++ plain equals ∷ construction_events construction))
+decl_layer (Decl-F.Signature names colons ty) = alone (flat_map (listed_events (variable_events Naming.Signed)) names ++ plain colons ∷ ty_events ty)
+decl_layer (Decl-F.Fixity word level operators) = alone (plain word ∷ (maybe_events level ++ flat_map (listed_events (operator_events Naming.Fixed)) operators))
 decl_layer (Decl-F.Equation left body locals) = record {
-  equation = Some (left_text left);
-  strip = λ goes_on. placed (λ start regions.
-      let inside = entered start 0 regions in
-      let deeper = in_where locals start inside in
-      left_side_strip (if goes_on then Role.GoesOn else Role.Declares Space.Value) inside left ▷ within deeper (body_strip body ▷ where_strip locals));
+  equation = Some (head_text left.head);
+  events = λ goes_on. Event.Begin ∷ (left_side_events (Naming.Defined goes_on) left ++ (rest_events body locals ++ Event.Leave ∷ Event.End ∷ []));
 }
-decl_layer (Decl-F.Binding pattern body locals) =
-    alone (placed (λ start regions. pat_strip pattern ▷ within (in_where locals start regions) (body_strip body ▷ where_strip locals)))
+decl_layer (Decl-F.Binding pattern body locals) = alone (Event.Begin ∷ (pat_events pattern ++ (rest_events body locals ++ Event.End ∷ [])))
 
 -- a generator's variables are in scope in the qualifiers behind it and in the head, but not in its own
 -- expression; so are the names of a `let` (section 3.11)
-abbrev pub qualifier_layer : Qualifier-F Declared Strip Qualified Strip → Qualified
-qualifier_layer (Qualifier-F.Generator pattern arrow part) = record { opens = true; strip = λ inside. within inside (pat_strip pattern) ▷ bare (arrow ∷ []) ▷ part }
-qualifier_layer (Qualifier-F.Locals word block) = record { opens = true; strip = λ inside. bare (word ∷ []) ▷ within inside (block_strip block) }
-qualifier_layer (Qualifier-F.Test part) = record { opens = false; strip = λ inside. part }
+abbrev pub qualifier_layer : Qualifier-F Declared (List Event) Qualified (List Event) → Qualified
+qualifier_layer (Qualifier-F.Generator pattern arrow part) =
+    record { opens = true; events = λ index. Event.Enter index ∷ (pat_events pattern ++ Event.Leave ∷ plain arrow ∷ part) }
+qualifier_layer (Qualifier-F.Locals word block) =
+    record { opens = true; events = λ index. plain word ∷ Event.Enter index ∷ (block_events block ++ Event.Leave ∷ []) }
+qualifier_layer (Qualifier-F.Test part) = record { opens = false; events = λ index. part }
 
-abbrev pub behind_qualifier : ℕ → ℕ → List Region → Qualified → List Region
-behind_qualifier start index regions qualifier = if qualifier.opens then entered start index regions else regions
+abbrev pub entering : ℕ → Bool → List Event
+entering index opens = if opens then Event.Enter index ∷ [] else []
 
--- the regions behind all qualifiers, in which the head stands
-abbrev pub behind_all : ℕ → ℕ → List Region → List (Listed Qualified) → List Region
-behind_all start index regions [] = regions
-behind_all start index regions (listed ∷ rest) = behind_all start (index + 1) (behind_qualifier start index regions listed.part) rest
+abbrev pub leaving : Bool → List Event
+leaving opens = if opens then Event.Leave ∷ [] else []
 
-abbrev pub qualifiers_strip : ℕ → ℕ → List Region → List (Listed Qualified) → Strip
-qualifiers_strip start index regions [] = bare []
-qualifiers_strip start index regions (listed ∷ rest) =
-    let inside = behind_qualifier start index regions listed.part in
-    within regions (listed.part.strip inside) ▷ bare (maybe_item listed.separator) ▷ qualifiers_strip start (index + 1) inside rest
+-- all regions of the qualifiers are entered, each inside the one before it
+abbrev pub all_entered : ℕ → List (Listed Qualified) → List Event
+all_entered index [] = []
+all_entered index (listed ∷ rest) = entering index listed.part.opens ++ all_entered (index + 1) rest
 
-abbrev pub exp_layer : Exp-F Declared Strip Qualified Strip → Strip
-exp_layer (Exp-F.Variable variable) = variable_strip use_of variable
-exp_layer (Exp-F.Constructor constructor) = constructor_strip use_of constructor
-exp_layer (Exp-F.Literal literal) = bare (literal ∷ [])
-exp_layer (Exp-F.Group left part right) = bare (left ∷ []) ▷ part ▷ bare (right ∷ [])
-exp_layer (Exp-F.Tuple left parts right) = bare (left ∷ []) ▷ listed_row done parts ▷ bare (right ∷ [])
-exp_layer (Exp-F.List left parts right) = bare (left ∷ []) ▷ listed_row done parts ▷ bare (right ∷ [])
-exp_layer (Exp-F.From left first dots right) = bare (left ∷ []) ▷ first ▷ bare (dots ∷ right ∷ [])
-exp_layer (Exp-F.FromThen left first comma second dots right) = bare (left ∷ []) ▷ first ▷ bare (comma ∷ []) ▷ second ▷ bare (dots ∷ right ∷ [])
-exp_layer (Exp-F.FromTo left first dots last right) = bare (left ∷ []) ▷ first ▷ bare (dots ∷ []) ▷ last ▷ bare (right ∷ [])
+abbrev pub all_left : List (Listed Qualified) → List Event
+all_left [] = []
+all_left (listed ∷ rest) = leaving listed.part.opens ++ all_left rest
+
+-- the region of a qualifier is round those behind it
+abbrev pub qualifiers_events : ℕ → List (Listed Qualified) → List Event
+qualifiers_events index [] = []
+qualifiers_events index (listed ∷ rest) =
+    listed.part.events index ++ (maybe_events listed.separator ++ (entering index listed.part.opens ++ qualifiers_events (index + 1) rest))
+
+abbrev pub exp_layer : Exp-F Declared (List Event) Qualified (List Event) → List Event
+exp_layer (Exp-F.Variable variable) = variable_events Naming.Used variable
+exp_layer (Exp-F.Constructor constructor) = constructor_events Naming.Used constructor
+exp_layer (Exp-F.Literal literal) = plain literal ∷ []
+exp_layer (Exp-F.Group left part right) = plain left ∷ (part ++ plain right ∷ [])
+exp_layer (Exp-F.Tuple left parts right) = plain left ∷ (flat_map (listed_events done) parts ++ plain right ∷ [])
+exp_layer (Exp-F.List left parts right) = plain left ∷ (flat_map (listed_events done) parts ++ plain right ∷ [])
+exp_layer (Exp-F.From left first dots right) = plain left ∷ (first ++ plain dots ∷ plain right ∷ [])
+exp_layer (Exp-F.FromThen left first comma second dots right) = plain left ∷ (first ++ plain comma ∷ (second ++ plain dots ∷ plain right ∷ []))
+exp_layer (Exp-F.FromTo left first dots last right) = plain left ∷ (first ++ plain dots ∷ (last ++ plain right ∷ []))
 exp_layer (Exp-F.FromThenTo left first comma second dots last right) =
-    bare (left ∷ []) ▷ first ▷ bare (comma ∷ []) ▷ second ▷ bare (dots ∷ []) ▷ last ▷ bare (right ∷ [])
+    plain left ∷ (first ++ plain comma ∷ (second ++ plain dots ∷ (last ++ plain right ∷ [])))
 exp_layer (Exp-F.Comprehension left part bar qualifiers right) =
-    placed (λ start regions. bare (left ∷ []) ▷ within (behind_all start 0 regions qualifiers) part ▷ bare (bar ∷ []) ▷ qualifiers_strip start 0 regions qualifiers ▷ bare (right ∷ []))
-exp_layer (Exp-F.LeftSection left part operator right) = bare (left ∷ []) ▷ part ▷ operator_strip use_of operator ▷ bare (right ∷ [])
-exp_layer (Exp-F.RightSection left operator part right) = bare (left ∷ []) ▷ operator_strip use_of operator ▷ part ▷ bare (right ∷ [])
-exp_layer (Exp-F.Apply atoms) = row atoms
-exp_layer (Exp-F.Infix operands) = row (map operand_strip operands)
-exp_layer (Exp-F.Annotated part colons ty) = part ▷ bare (colons ∷ []) ▷ ty_strip ty
+    Event.Begin ∷ plain left ∷ (all_entered 0 qualifiers ++ (part ++ (all_left qualifiers ++ plain bar
+    ∷ (qualifiers_events 0 qualifiers ++ (all_left qualifiers ++ plain right ∷ Event.End ∷ [])))))
+exp_layer (Exp-F.LeftSection left part operator right) = plain left ∷ (part ++ (operator_events Naming.Used operator ++ plain right ∷ []))
+exp_layer (Exp-F.RightSection left operator part right) = plain left ∷ (operator_events Naming.Used operator ++ (part ++ plain right ∷ []))
+exp_layer (Exp-F.Apply atoms) = flat_map done atoms
+exp_layer (Exp-F.Infix operands) = flat_map (operand_events done) operands
+exp_layer (Exp-F.Annotated part colons ty) = part ++ plain colons ∷ ty_events ty
 exp_layer (Exp-F.Lambda mark patterns arrow body) =
-    placed (λ start regions. bare (mark ∷ []) ▷ within (entered start 0 regions) (pats_strip patterns ▷ bare (arrow ∷ []) ▷ body))
+    Event.Begin ∷ plain mark ∷ Event.Enter 0 ∷ (flat_map pat_events patterns ++ plain arrow ∷ (body ++ Event.Leave ∷ Event.End ∷ []))
 exp_layer (Exp-F.Let word block in_word body) =
-    placed (λ start regions. bare (word ∷ []) ▷ within (entered start 0 regions) (block_strip block ▷ bare (in_word ∷ []) ▷ body))
-exp_layer (Exp-F.If word test then_word first else_word second) =
-    bare (word ∷ []) ▷ test ▷ bare (then_word ∷ []) ▷ first ▷ bare (else_word ∷ []) ▷ second
-exp_layer (Exp-F.Case word part of_word block) = bare (word ∷ []) ▷ part ▷ bare (of_word ∷ []) ▷ alternatives_strip block
-exp_layer (Exp-F.Fields part left fields right) = part ▷ bare (left ∷ []) ▷ listed_row field_strip fields ▷ bare (right ∷ [])
+    Event.Begin ∷ plain word ∷ Event.Enter 0 ∷ (block_events block ++ plain in_word ∷ (body ++ Event.Leave ∷ Event.End ∷ []))
+exp_layer (Exp-F.If word test then_word first else_word second) = plain word ∷ (test ++ plain then_word ∷ (first ++ plain else_word ∷ second))
+exp_layer (Exp-F.Case word part of_word block) = plain word ∷ (part ++ plain of_word ∷ alternatives_events block)
+exp_layer (Exp-F.Fields part left fields right) = part ++ plain left ∷ (flat_map (listed_events (field_events done)) fields ++ plain right ∷ [])
 
-abbrev pub alt_layer : Alt-F Declared Strip Qualified Strip → Strip
-alt_layer alt = placed (λ start regions.
-    let inside = entered start 0 regions in
-    within inside (pat_strip alt.pattern) ▷ within (in_where alt.locals start inside) (body_strip alt.body ▷ where_strip alt.locals))
+abbrev pub alt_layer : Alt-F Declared (List Event) Qualified (List Event) → List Event
+alt_layer alt = Event.Begin ∷ Event.Enter 0 ∷ (pat_events alt.pattern ++ (rest_events alt.body alt.locals ++ Event.Leave ∷ Event.End ∷ []))
 
 abbrev pub declared_of : Decl → Declared
-declared_of = fold-Decl Declared Strip Qualified Strip decl_layer exp_layer qualifier_layer alt_layer
+declared_of = fold-Decl Declared (List Event) Qualified (List Event) decl_layer exp_layer qualifier_layer alt_layer
+
+abbrev pub exp_events : Exp → List Event
+exp_events = fold-Exp Declared (List Event) Qualified (List Event) decl_layer exp_layer qualifier_layer alt_layer
+
+abbrev pub qualified_of : Qualifier → Qualified
+qualified_of = fold-Qualifier Declared (List Event) Qualified (List Event) decl_layer exp_layer qualifier_layer alt_layer
+
+abbrev pub alt_events : Alt → List Event
+alt_events = fold-Alt Declared (List Event) Qualified (List Event) decl_layer exp_layer qualifier_layer alt_layer
+
+abbrev pub declared_piece : Piece Decl → Piece Declared
+declared_piece (Piece.Semicolon item) = Piece.Semicolon item
+declared_piece (Piece.Part decl) = Piece.Part (declared_of decl)
 
 -- the body of a module is no region
-abbrev pub module_strip : Module → Strip
-module_strip tree = header_strip tree.header ▷ bare (opening_items tree.body.layout) ▷ pieces_strip None (map declared_piece tree.body.pieces) ▷ bare (closing_items tree.body.layout)
-  where
-    declared_piece : Piece Decl → Piece Declared
-    declared_piece (Piece.Semicolon item) = Piece.Semicolon item
-    declared_piece (Piece.Part decl) = Piece.Part (declared_of decl)
+abbrev pub module_events : Module → List Event
+module_events tree =
+    header_events tree.header ++ (bare (opening_items tree.body.layout) ++ (pieces_events None (map declared_piece tree.body.pieces) ++ bare (closing_items tree.body.layout)))
 
--- the lexemes of a module with their roles and the regions round them, in order
-abbrev pub outline : Module → List Mark
-outline tree = (module_strip tree).marks 0 []
+-- the lexemes of a module with their roles, in order, and the regions that are entered
+abbrev pub outline : Module → Outlined
+outline tree = read_all (module_events tree)

@@ -16,7 +16,7 @@ use Rattle.hr_tree.specs.declared.modules.Imported.{Imported}
 use Rattle.hr_tree.specs.declared.modules.Header.{Header}
 use Rattle.hr_tree.specs.declared.modules.Module.{Module}
 use Rattle.hr_scope_rules.specs.Names.{name_of, plain_name}
-use Rattle.hr_scope_rules.specs.Outline.{outline}
+use Rattle.hr_scope_rules.specs.Regions.{lexemes}
 use Rattle.hr_scope_rules.specs.Phrases.{variable_text}
 use Rattle.hr_scope_rules.specs.Modules.{module_name, own_entities, entity_of, constructed}
 use Rattle.hr_scope_rules.specs.Imports.{Access, accesses, member_texts, parts_of}
@@ -41,7 +41,7 @@ same_qualifier _ _ = false
 
 -- the parts of the types of all modules, each with its type
 abbrev pub module_parts : Module → List (Entity × Entity)
-module_parts tree = map (λ pair. (entity_of (module_name tree) Space.TypeName pair.0, entity_of (module_name tree) Space.Constructor pair.1)) (constructed [] (outline tree))
+module_parts tree = map (λ pair. (entity_of (module_name tree) Space.TypeName pair.0, entity_of (module_name tree) Space.Constructor pair.1)) (constructed [] (lexemes tree))
 
 abbrev pub all_parts : List Module → List (Entity × Entity)
 all_parts modules = flat_map module_parts modules

@@ -2,6 +2,8 @@
 //! runs.
 #![tactic(auto)]
 
+mod naming;
 mod role;
 
+pub use naming::Naming;
 pub use role::Role;

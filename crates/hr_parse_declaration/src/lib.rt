@@ -1,0 +1,19 @@
+//! Declarations without expressions in them, imports and a module's header: the Haskell 98 Report, sections 4.2, 4.4.1,
+//! 4.4.2, 5.1 to 5.3.
+#![tactic(auto)]
+
+mod fixities;
+mod imports;
+mod lists;
+mod names;
+mod opened;
+mod signatures;
+mod stated;
+mod types;
+
+pub use fixities::fixity;
+pub use imports::{header, import};
+pub use names::operator_name;
+pub use signatures::signature;
+pub use stated::{Stated, stated};
+pub use types::type_declaration;

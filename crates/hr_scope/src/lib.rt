@@ -1,0 +1,17 @@
+//! What each name of a project is bound to.
+#![tactic(auto)]
+
+mod binding;
+mod double;
+mod error;
+mod found;
+mod lists;
+mod locals;
+mod project;
+
+pub use binding::{bind, look_up};
+pub use error::ScopeError;
+pub use found::Found;
+
+#[cfg(test)]
+mod tests;
