@@ -1,45 +1,28 @@
-//! Fixity declarations.
+//! Fixity declarations: the Haskell 98 Report, section 4.4.2.
+ghost use Rattle.std.specs.Prelude.{◌≡◌, IfOk};
+ghost use Rattle.hr_parse_declaration.specs.Stated.{ReadsLocal};
 
-use crate::names::operator_name;
+use crate::lists::operators;
+use crate::next::{accept_digit, fixity_word};
 use crate::stated::{Stated, stated};
-use hr_base::{Ending, Item, Seq};
+use hr_base::Ending;
 use hr_layout::Cursor;
-use hr_parse_lexeme::{Mark, Sort, Stop, accept, expect_sort};
-use hr_tree::{Decl, Listed, Operator};
+use hr_parse_lexeme::Stop;
+use hr_tree::Decl;
 use std::alloc::Global;
 
 /// A fixity declaration: its level is one digit.
-// will ensure: the production of Decl.Fixity, with Ending.Fixity
-pub fn fixity(alloc: Global, cursor: &mut Cursor) -> Result<Stated<Decl>, Stop> {
-    let word = expect_sort(cursor, Sort::Word)?;
-    let level = level(cursor)?;
+pub fn fixity(alloc: Global, cursor: &mut Cursor) -> Result<Stated<Decl>, Stop>
+    ensures reads { IfOk result (λ stated. ReadsLocal stated cursor.old cursor.new) }
+    ensures height { IfOk result (λ stated. stated.height ≡ 1) }
+{
+    let word = fixity_word(cursor)?;
+    let level = accept_digit(cursor);
     let operators = operators(alloc, cursor)?;
-    let decl = Decl::Fixity(word, level, operators);
-    Ok(stated(alloc, decl, 0, Ending::Fixity)?)
-}
-
-fn level(cursor: &mut Cursor) -> Result<Option<Item>, Stop> {
-    match cursor.ahead() {
-        Some(lexeme) if Sort::Integer.has(lexeme) && lexeme.text.len() == 1 => {
-            Ok(Some(expect_sort(cursor, Sort::Integer)?))
-        }
-        _ => Ok(None),
-    }
-}
-
-fn operators(alloc: Global, cursor: &mut Cursor) -> Result<Seq<Listed<Operator>>, Stop> {
-    let mut list = Vec::new(alloc);
-    let mut last = operator_name(cursor)?;
-    while let Some(comma) = accept(cursor, Mark::Comma) {
-        list.push(Listed {
-            part: last,
-            separator: Some(comma),
-        })?;
-        last = operator_name(cursor)?;
-    }
-    list.push(Listed {
-        part: last,
-        separator: None,
-    })?;
-    Ok(Seq { list })
+    Ok(stated(
+        alloc,
+        Decl::Fixity(word, level, operators),
+        0,
+        Ending::Fixity,
+    )?)
 }

@@ -1,75 +1,64 @@
-//! Lists of names in parentheses, and the constructors that are named with a type.
+//! Names with commas between them.
+ghost use Rattle.std.specs.Prelude.{IfOk};
+ghost use Rattle.hr_layout.specs.Standing.{Standing};
+ghost use Rattle.hr_tree.specs.Names.{operator_items, variable_items};
+ghost use Rattle.hr_grammar.specs.Spelled.{IsOwnOperator, IsVariable};
+ghost use Rattle.hr_parse_lexeme.specs.Reads.{Spells};
+ghost use Rattle.hr_parse_declaration.specs.Lists.{ReadsNames};
 
-use crate::names::own_constructor;
-use hr_base::{Item, Seq};
+use crate::names::{operator_name, own_variable};
+use hr_base::Seq;
 use hr_layout::Cursor;
-use hr_parse_lexeme::{Mark, Notes, Stop, accept, expect, is_next};
-use hr_tree::{Listed, Member, Members};
+use hr_parse_lexeme::{Held, Mark, Stop, accept};
+use hr_tree::{Listed, Operator, Variable};
 use std::alloc::Global;
 
-/// The constructors behind a type's name, if a parenthesis opens there.
-// will ensure: maybe (members_reading n)
-pub(crate) fn members(
+/// The variables of a signature, of which the first one has been read.
+pub(crate) fn variables(
     alloc: Global,
     cursor: &mut Cursor,
-    notes: &mut Notes,
-) -> Result<Option<Members>, Stop> {
-    let Some(left) = accept(cursor, Mark::LeftParen) else {
-        return Ok(None);
-    };
-    if let Some(dots) = accept(cursor, Mark::Dots) {
-        let right = expect(cursor, Mark::RightParen)?;
-        return Ok(Some(Members::All(left, dots, right)));
-    }
-    let list = match accept(cursor, Mark::RightParen) {
-        Some(right) => {
-            let list = Vec::new(alloc);
-            return Ok(Some(Members::Named(left, Seq { list }, right)));
-        }
-        None => constructors(alloc, cursor, notes)?,
-    };
-    let right = expect(cursor, Mark::RightParen)?;
-    Ok(Some(Members::Named(left, list, right)))
-}
-
-/// One constructor or more, with commas between them.
-fn constructors(
-    alloc: Global,
-    cursor: &mut Cursor,
-    notes: &mut Notes,
-) -> Result<Seq<Listed<Member>>, Stop> {
+    first: Variable,
+) -> Result<Seq<Listed<Variable>>, Stop>
+    ensures { IfOk result (λ list. (before : Standing) → Spells IsVariable variable_items first before cursor.old → ReadsNames IsVariable variable_items list before cursor.new) }
+{
     let mut list = Vec::new(alloc);
+    let mut last = Held::new(first);
     loop {
-        let part = Member::Constructor(own_constructor(cursor)?);
-        notes.whole(cursor.pos());
-        let separator = accept(cursor, Mark::Comma);
-        let is_last = separator.is_none();
-        list.push(Listed { part, separator })?;
-        if is_last {
+        let Some(comma) = accept(cursor, Mark::Comma) else {
+            list.push(Listed {
+                part: last.take(),
+                separator: None,
+            })?;
             return Ok(Seq { list });
-        }
+        };
+        let next = Held::new(own_variable(cursor)?);
+        list.push(Listed {
+            part: last.take(),
+            separator: Some(comma),
+        })?;
+        last = next;
     }
 }
 
-/// How a list in parentheses goes on behind one of its names.
-#[derive(Drop)]
-pub(crate) enum Next {
-    /// Another name stands behind the comma.
-    Name(Item),
-    /// The list ends, perhaps with a comma.
-    End(Option<Item>),
-}
-
-/// A comma is the last one exactly where the parenthesis closes behind it.
-pub(crate) fn next_name(cursor: &mut Cursor) -> Next {
-    match accept(cursor, Mark::Comma) {
-        None => Next::End(None),
-        Some(comma) => {
-            if is_next(cursor, Mark::RightParen) {
-                Next::End(Some(comma))
-            } else {
-                Next::Name(comma)
-            }
-        }
+/// The operators of a fixity declaration.
+pub(crate) fn operators(alloc: Global, cursor: &mut Cursor) -> Result<Seq<Listed<Operator>>, Stop>
+    ensures { IfOk result (λ list. ReadsNames IsOwnOperator operator_items list cursor.old cursor.new) }
+{
+    let mut list = Vec::new(alloc);
+    let mut last = Held::new(operator_name(cursor)?);
+    loop {
+        let Some(comma) = accept(cursor, Mark::Comma) else {
+            list.push(Listed {
+                part: last.take(),
+                separator: None,
+            })?;
+            return Ok(Seq { list });
+        };
+        let next = Held::new(operator_name(cursor)?);
+        list.push(Listed {
+            part: last.take(),
+            separator: Some(comma),
+        })?;
+        last = next;
     }
 }

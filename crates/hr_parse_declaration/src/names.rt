@@ -1,23 +1,32 @@
 //! Names that declarations and lists of names give.
+ghost use Rattle.std.specs.Prelude.{IfOk};
+ghost use Rattle.hr_base.specs.declared.lexeme.Class.{Class};
+ghost use Rattle.hr_tree.specs.Names.{constructor_items, operator_items, variable_items};
+ghost use Rattle.hr_grammar.specs.Words.{IsOf};
+ghost use Rattle.hr_grammar.specs.Spelled.{IsNamedVariable, IsOwnConstructor, IsOwnConstructorOperator, IsOwnOperator, IsVariable};
+ghost use Rattle.hr_parse_lexeme.specs.Reads.{Spells, Takes};
 
 use hr_base::{Class, Item};
 use hr_layout::Cursor;
-use hr_parse_lexeme::{Kind, Mark, Sort, Stop, accept, expect, expect_sort, kind_ahead};
-use hr_parse_pattern::expect_kind;
+use hr_parse_lexeme::{Mark, Sort, Stop, accept, accept_sort, expect, expect_sort};
 use hr_tree::{Constructor, Operator, Variable};
 
 /// The name of a module. A qualified one is left out of the language.
-// will ensure: IfOk result (λ item. Takes (IsOf Class.ConId) item cursor.old cursor.new)
-pub(crate) fn module_name(cursor: &mut Cursor) -> Result<Item, Stop> {
-    if let Some(lexeme) = cursor.peek() && lexeme.class == Class::QConId {
+pub(crate) fn module_name(cursor: &mut Cursor) -> Result<Item, Stop>
+    ensures { IfOk result (λ item. Takes (IsOf Class.ConId) item cursor.old cursor.new) }
+{
+    if let Some(lexeme) = cursor.peek()
+        && lexeme.class == Class::QConId
+    {
         return Err(Stop::LeftOut);
     }
     expect_sort(cursor, Sort::Constructor)
 }
 
 /// A variable that is declared: a name, or an operator in parentheses.
-// will ensure: spelled n IsVariable variable_items
-pub(crate) fn own_variable(cursor: &mut Cursor) -> Result<Variable, Stop> {
+pub(crate) fn own_variable(cursor: &mut Cursor) -> Result<Variable, Stop>
+    ensures { IfOk result (λ variable. Spells IsVariable variable_items variable cursor.old cursor.new) }
+{
     match accept(cursor, Mark::LeftParen) {
         None => Ok(Variable::Name(expect_sort(cursor, Sort::Variable)?)),
         Some(left) => {
@@ -29,8 +38,9 @@ pub(crate) fn own_variable(cursor: &mut Cursor) -> Result<Variable, Stop> {
 }
 
 /// A variable that an export names.
-// will ensure: spelled n IsNamedVariable variable_items
-pub(crate) fn named_variable(cursor: &mut Cursor) -> Result<Variable, Stop> {
+pub(crate) fn named_variable(cursor: &mut Cursor) -> Result<Variable, Stop>
+    ensures { IfOk result (λ variable. Spells IsNamedVariable variable_items variable cursor.old cursor.new) }
+{
     match accept(cursor, Mark::LeftParen) {
         None => Ok(Variable::Name(expect_sort(cursor, Sort::NamedVariable)?)),
         Some(left) => {
@@ -42,8 +52,9 @@ pub(crate) fn named_variable(cursor: &mut Cursor) -> Result<Variable, Stop> {
 }
 
 /// A constructor that is declared or listed.
-// will ensure: spelled n IsOwnConstructor constructor_items
-pub(crate) fn own_constructor(cursor: &mut Cursor) -> Result<Constructor, Stop> {
+pub(crate) fn own_constructor(cursor: &mut Cursor) -> Result<Constructor, Stop>
+    ensures { IfOk result (λ constructor. Spells IsOwnConstructor constructor_items constructor cursor.old cursor.new) }
+{
     match accept(cursor, Mark::LeftParen) {
         None => Ok(Constructor::Name(expect_sort(cursor, Sort::Constructor)?)),
         Some(left) => {
@@ -55,19 +66,23 @@ pub(crate) fn own_constructor(cursor: &mut Cursor) -> Result<Constructor, Stop> 
 }
 
 /// An operator whose fixity is declared.
-// will ensure: spelled n IsOwnOperator operator_items
-pub fn operator_name(cursor: &mut Cursor) -> Result<Operator, Stop> {
-    let kind = kind_ahead(cursor);
-    match kind {
-        Kind::VariableSymbol | Kind::Minus | Kind::ConstructorSymbol => {
-            Ok(Operator::Symbol(expect_kind(cursor, kind)?))
+pub fn operator_name(cursor: &mut Cursor) -> Result<Operator, Stop>
+    ensures { IfOk result (λ operator. Spells IsOwnOperator operator_items operator cursor.old cursor.new) }
+{
+    if let Some(symbol) = accept_sort(cursor, Sort::VariableSymbol) {
+        return Ok(Operator::Symbol(symbol));
+    }
+    if let Some(symbol) = accept_sort(cursor, Sort::ConstructorSymbol) {
+        return Ok(Operator::Symbol(symbol));
+    }
+    let left = expect(cursor, Mark::Backquote)?;
+    match accept_sort(cursor, Sort::Constructor) {
+        Some(name) => {
+            let right = expect(cursor, Mark::Backquote)?;
+            Ok(Operator::Quoted(left, name, right))
         }
-        _ => {
-            let left = expect(cursor, Mark::Backquote)?;
-            let name = match kind_ahead(cursor) {
-                Kind::Constructor => expect_sort(cursor, Sort::Constructor)?,
-                _ => expect_sort(cursor, Sort::Variable)?,
-            };
+        None => {
+            let name = expect_sort(cursor, Sort::Variable)?;
             let right = expect(cursor, Mark::Backquote)?;
             Ok(Operator::Quoted(left, name, right))
         }
@@ -75,8 +90,9 @@ pub fn operator_name(cursor: &mut Cursor) -> Result<Operator, Stop> {
 }
 
 /// A constructor operator of a `data` declaration.
-// will ensure: spelled n IsOwnConstructorOperator operator_items
-pub(crate) fn own_constructor_operator(cursor: &mut Cursor) -> Result<Operator, Stop> {
+pub(crate) fn own_constructor_operator(cursor: &mut Cursor) -> Result<Operator, Stop>
+    ensures { IfOk result (λ operator. Spells IsOwnConstructorOperator operator_items operator cursor.old cursor.new) }
+{
     match accept(cursor, Mark::Backquote) {
         None => Ok(Operator::Symbol(expect_sort(cursor, Sort::ConstructorSymbol)?)),
         Some(left) => {

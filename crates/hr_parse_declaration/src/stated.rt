@@ -1,4 +1,5 @@
 //! Parts of blocks.
+ghost use Rattle.std.specs.Prelude.{◌≡◌, ◌+◌, ◌≤◌, IfOk};
 
 use hr_base::Ending;
 use hr_tree::Decl;
@@ -19,7 +20,9 @@ pub fn stated(
     decl: Decl,
     levels: u32,
     ending: Ending,
-) -> Result<Stated<Decl>, AllocError> {
+) -> Result<Stated<Decl>, AllocError>
+    ensures { IfOk result (λ stated. levels ≤ 256 → stated ≡ record { tree = decl; height = levels + 1; ending = ending }) }
+{
     Ok(Stated {
         tree: Boxed::new(alloc, decl)?,
         height: levels.saturating_add(1),

@@ -53,6 +53,7 @@ mark_open Mark.Bar = refl
 mark_open Mark.Arrow = refl
 mark_open Mark.BackArrow = refl
 mark_open Mark.DoubleColon = refl
+mark_open Mark.Colon = refl
 mark_open Mark.Dots = refl
 mark_open Mark.Backslash = refl
 mark_open Mark.At = refl

@@ -16,14 +16,14 @@ Phrase = Derivations → ℕ → Reading
 
 -- the lexemes from the first standing to the second are read so on each level from the height on, and no block
 -- has opened or ended
-pub record Reads (height : ℕ) (phrase : Phrase) (before after : Standing) : Type 0 where
+pub record Consumes (height : ℕ) (phrase : Phrase) (before after : Standing) : Type 0 where
   pub read : (levels : ℕ) → height ≤ levels → phrase (derivations levels) (enclosing before.blocks) before.rest after.rest
   pub blocks : after.blocks ≡ before.blocks
 
 -- a lexeme of its kind is taken
 pub record Takes (Is : Item → Type 0) (item : Item) (before after : Standing) : Type 0 where
   pub is : Is item
-  pub taken : Reads 0 (λ below n. takes n item) before after
+  pub taken : Consumes 0 (λ below n. takes n item) before after
 
 -- a lexeme that may be there: where it isn't, nothing is taken
 abbrev pub Accepts : (Item → Type 0) → Option Item → Standing → Standing → Type 0
@@ -37,7 +37,7 @@ IsAhead Is blocks (next ∷ rest) = (goes_on (enclosing blocks) next ≡ true) �
 
 -- lexemes are taken
 pub record TakesAll (items : List Item) (before after : Standing) : Type 0 where
-  pub taken : Reads 0 (λ below n. take_all n items) before after
+  pub taken : Consumes 0 (λ below n. take_all n items) before after
 
 -- the lexemes of a name or an operator of its kind are taken
 pub record Spells {T : Type 0} (Is : T → Type 0) (items_of : T → List Item) (name : T) (before after : Standing) : Type 0 where
@@ -50,7 +50,7 @@ Trees T = Derivations → ℕ → T → Reading
 
 -- each of a list is read
 pub record ReadsEach {T : Type 0} (height : ℕ) (of : Trees T) (list : List T) (before after : Standing) : Type 0 where
-  pub reads : Reads height (λ below n. in_turn (of below n) list) before after
+  pub reads : Consumes height (λ below n. in_turn (of below n) list) before after
 
 -- a part and the separator behind it
 abbrev pub with_separator : {T : Type 0} → (Item → Reading) → (T → Reading) → Listed T → Reading
@@ -58,4 +58,4 @@ with_separator separator of listed = of listed.part ▷ there separator listed.s
 
 -- parts with a separator behind each are read, and one more
 pub record ReadsParts {T : Type 0} (height : ℕ) (Separates : Item → Type 0) (of : Trees T) (others : List (Listed T)) (last : T) (before after : Standing) : Type 0 where
-  pub reads : Reads height (λ below n. in_turn (with_separator (one n Separates) (of below n)) others ▷ of below n last) before after
+  pub reads : Consumes height (λ below n. in_turn (with_separator (one n Separates) (of below n)) others ▷ of below n last) before after

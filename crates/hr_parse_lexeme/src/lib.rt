@@ -17,7 +17,7 @@ pub use error::{ParseError, refusal};
 pub use held::Held;
 pub use kind::{Kind, kind_ahead};
 pub use mark::Mark;
-pub use names::{Bracket, parenthesis, square};
+pub use names::{Bracket, MOST_COMMAS, commas, parenthesis, square};
 pub use nesting::{LIMIT, Measured, nest};
 pub use notes::Notes;
 pub use sort::Sort;

@@ -11,7 +11,7 @@ use hr_tree::Constructor;
 use std::alloc::Global;
 
 /// A tuple has fifteen parts at most.
-const MOST_COMMAS: usize = 14;
+pub const MOST_COMMAS: usize = 14;
 
 /// What an opening bracket begins: a constructor that has no name, or what is to be read behind it.
 #[derive(Drop)]
@@ -48,7 +48,7 @@ pub fn square(cursor: &mut Cursor) -> Result<Bracket, Stop>
 }
 
 /// One comma or more, and fourteen at most.
-fn commas(alloc: Global, cursor: &mut Cursor) -> Result<Seq<Item>, Stop>
+pub fn commas(alloc: Global, cursor: &mut Cursor) -> Result<Seq<Item>, Stop>
     ensures commas { IfOk result (λ commas. AreCommas commas) }
     ensures taken { IfOk result (λ commas. TakesAll commas cursor.old cursor.new) }
 {

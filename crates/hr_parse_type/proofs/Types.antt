@@ -20,7 +20,7 @@ use Rattle.hr_grammar_cases.specs.Types.{ty_reading}
 use Rattle.hr_grammar_cases.specs.Modules.{derivations}
 use Rattle.hr_grammar_cases.proofs.Shrinks.{readings_shrink_lem}
 use Rattle.hr_parse_lexeme.specs.declared.nesting.Measured.{Measured}
-use Rattle.hr_parse_lexeme.specs.Reads.{Reads, Takes, Spells, ReadsEach, ReadsParts}
+use Rattle.hr_parse_lexeme.specs.Reads.{Consumes, Takes, Spells, ReadsEach, ReadsParts}
 use Rattle.hr_parse_lexeme.proofs.Phrases.{last, then, item, last_item, name, last_name, where_given, parts_close, only_part, none_between, raised, placed_as, each_none, each_more, parts_begin, parts_more}
 use Rattle.hr_parse_type.specs.declared.nodes.Parts.{Parts}
 use Rattle.hr_parse_type.specs.declared.nodes.Head.{Head}
@@ -28,8 +28,8 @@ use Rattle.hr_parse_type.specs.Heads.{head_height, ReadsTy, ReadsHead, ReadsArgu
 use Rattle.hr_parse_type.specs.Nodes.{atom_of, applied_of, closed_by, closed_of}
 
 -- a node, on the level above its parts
-node : {h : ℕ} {a b : Standing} (place : TyPlace) (layer : Ty-F Ty) (ty : Ty) → out-Ty ty ≡ layer → Reads h (λ below n. ty_reading below n place layer) a b
-    → Reads (h + 1) (λ below n. below.ty n place ty) a b
+node : {h : ℕ} {a b : Standing} (place : TyPlace) (layer : Ty-F Ty) (ty : Ty) → out-Ty ty ≡ layer → Consumes h (λ below n. ty_reading below n place layer) a b
+    → Consumes (h + 1) (λ below n. below.ty n place ty) a b
 node place layer ty e p =
     raised (λ below n. below.ty n place ty) (λ levels n ts us r. subst (λ l. ty_reading (derivations levels) n place l ts us) (sym e) r) p
 
@@ -213,5 +213,5 @@ within depth h p = omega arith
 
 -- on all the levels below a depth
 pub within_depth : (depth : ℕ) {ty : Measured Ty} {found : Ty} {a b : Standing} → found ≡ ty.tree → ReadsTy TyPlace.Whole ty a b → depth + ty.height ≤ 256
-    → Reads (256 - depth) (λ below n. below.ty n TyPlace.Whole found) a b
-within_depth depth {ty} {a = a} {b} e p fits = subst (λ t. Reads (256 - depth) (λ below n. below.ty n TyPlace.Whole t) a b) (sym e) (last p (within depth ty.height fits))
+    → Consumes (256 - depth) (λ below n. below.ty n TyPlace.Whole found) a b
+within_depth depth {ty} {a = a} {b} e p fits = subst (λ t. Consumes (256 - depth) (λ below n. below.ty n TyPlace.Whole t) a b) (sym e) (last p (within depth ty.height fits))

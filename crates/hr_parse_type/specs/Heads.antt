@@ -11,13 +11,13 @@ use Rattle.hr_parse_lexeme.specs.declared.mark.Mark.{Mark}
 use Rattle.hr_parse_lexeme.specs.declared.names.Bracket.{Bracket}
 use Rattle.hr_parse_lexeme.specs.declared.nesting.Measured.{Measured}
 use Rattle.hr_parse_lexeme.specs.Marks.{IsMark}
-use Rattle.hr_parse_lexeme.specs.Reads.{Reads, Takes, Spells, ReadsEach, ReadsParts}
+use Rattle.hr_parse_lexeme.specs.Reads.{Consumes, Takes, Spells, ReadsEach, ReadsParts}
 use Rattle.hr_parse_type.specs.declared.nodes.Head.{Head}
 use Rattle.hr_parse_type.specs.declared.nodes.Parts.{Parts}
 
 -- a type of the height, at its place
 abbrev pub ReadsTy : TyPlace → Measured Ty → Standing → Standing → Type 0
-ReadsTy place ty = Reads ty.height (λ below n. below.ty n place ty.tree)
+ReadsTy place ty = Consumes ty.height (λ below n. below.ty n place ty.tree)
 
 -- an opening bracket, or a type's constructor that begins with it
 abbrev pub OpensType : Mark → Bracket → Standing → Standing → Type 0

@@ -44,7 +44,7 @@ fn constructor(named: Held<Constructor>) -> Measured<Ty>
 }
 
 /// The constructor with its arguments, if it has some.
-pub(crate) fn applied(named: Held<Constructor>, arguments: Measured<Children<Ty>>) -> Measured<Ty>
+pub fn applied(named: Held<Constructor>, arguments: Measured<Children<Ty>>) -> Measured<Ty>
     requires { arguments.height ≤ 256 }
     ensures { result ≡ applied_of named arguments.tree arguments.height }
 {

@@ -3,7 +3,7 @@
 ghost use Rattle.std.specs.Prelude.{◌≡◌, ◌+◌, ◌-◌, ◌<◌, ◌≤◌, length, IfOk};
 ghost use Rattle.hr_layout.specs.Standing.{Standing};
 ghost use Rattle.hr_grammar.specs.Nodes.{TyPlace};
-ghost use Rattle.hr_parse_lexeme.specs.Reads.{Reads};
+ghost use Rattle.hr_parse_lexeme.specs.Reads.{Consumes};
 ghost use Rattle.hr_parse_lexeme.specs.declared.mark.Mark.{Mark};
 ghost use Rattle.hr_parse_type.specs.Heads.{head_height, OpensType, ReadsArguments, ReadsHead, ReadsTy, ReadsTypes};
 
@@ -21,7 +21,7 @@ use std::alloc::Global;
 /// `depth`.
 pub fn ty(alloc: Global, cursor: &mut Cursor, depth: u32) -> Result<Ty, ParseError>
     requires { depth ≤ 256 }
-    ensures { IfOk result (λ ty. Reads (256 - depth) (λ below n. below.ty n TyPlace.Whole ty) cursor.old cursor.new) }
+    ensures { IfOk result (λ ty. Consumes (256 - depth) (λ below n. below.ty n TyPlace.Whole ty) cursor.old cursor.new) }
 {
     match whole_type(alloc, cursor, depth) {
         Ok(Measured { tree, .. }) => Ok(tree.take()),
@@ -78,7 +78,7 @@ pub fn atomic_type(alloc: Global, cursor: &mut Cursor, depth: u32) -> Result<Mea
 
 /// As many atomic types as follow.
 #[cycle(types)]
-fn arguments(alloc: Global, cursor: &mut Cursor, depth: u32) -> Result<Measured<Children<Ty>>, Stop>
+pub(crate) fn arguments(alloc: Global, cursor: &mut Cursor, depth: u32) -> Result<Measured<Children<Ty>>, Stop>
     requires { depth ≤ 256 }
     ensures reads { IfOk result (λ arguments. ReadsArguments arguments cursor.old cursor.new) }
     ensures fits { IfOk result (λ arguments. depth + arguments.height ≤ 256) }
@@ -130,7 +130,7 @@ fn head(alloc: Global, cursor: &mut Cursor, depth: u32) -> Result<Head, Stop>
 
 /// A constructor that its parentheses make, or what stands in them and the closing one.
 #[cycle(types)]
-fn in_parentheses(
+pub(crate) fn in_parentheses(
     alloc: Global,
     cursor: &mut Cursor,
     depth: u32,
