@@ -1,0 +1,10 @@
+//! How a report shows why a project or a step is refused.
+#![tactic(auto)]
+
+mod fields;
+mod places;
+mod projects;
+
+pub use fields::add_fields;
+pub use places::{entity_text, place_at, place_text};
+pub use projects::project_refusal;
