@@ -1,4 +1,4 @@
--- The words of a command line that are one command: `rename MODULE LINE:COLUMN NAME in FILE`.
+-- The words of a command line that are one command: `rename MODULE LINE:COLUMN NAME in FILE ..`, with one file or more.
 use Rattle.std.specs.Prelude.{ℕ, ◌+◌, ◌-◌, ◌*◌, Bool, true, false, not, ◌&&◌, ◌==◌, nat_le, List, [], ◌∷◌, fold, Option, Some, None, if◌then◌else◌, codes, chars, position, take, drop}
 use Rattle.std.specs.List.{list_all, list_any}
 use Rattle.std.specs.Str.{bytes_eq}
@@ -6,12 +6,12 @@ use Rattle.hr_base.specs.declared.place.Pos.{Pos}
 use Rattle.hr_rules.specs.declared.character.Kind.{Kind}
 use Rattle.hr_rules.specs.Letters.{kind_of, is_in_name, is_blank}
 
--- a renaming in a file: the module and the position of a name, and the new name
+-- a renaming in a project of these files: the module and the position of a name, and the new name
 pub record Renaming : Type 0 where
   pub module_name : List ℕ
   pub pos : Pos
   pub new_name : List ℕ
-  pub file : List ℕ
+  pub files : List (List ℕ)
 
 abbrev pub is_digit : ℕ → Bool
 is_digit c = nat_le 48 c && nat_le c 57
@@ -45,11 +45,11 @@ behind_place None text = []
 behind_place (Some place) text = drop (place + 1) text
 
 -- the line and the column on the two sides of it
-abbrev pub line_of : List ℕ → List ℕ
-line_of text = before_place (colon_of text) text
+abbrev pub line_text : List ℕ → List ℕ
+line_text text = before_place (colon_of text) text
 
-abbrev pub column_of : List ℕ → List ℕ
-column_of text = behind_place (colon_of text) text
+abbrev pub column_text : List ℕ → List ℕ
+column_text text = behind_place (colon_of text) text
 
 abbrev pub pos_from : Option ℕ → Option ℕ → Option Pos
 pos_from (Some line) (Some col) = Some (record { line = line; col = col })
@@ -57,7 +57,7 @@ pos_from _ _ = None
 
 -- the position that the text is
 unfoldable pub pos_of : List ℕ → Option Pos
-pos_of text = pos_from (number_of (line_of text)) (number_of (column_of text))
+pos_of text = pos_from (number_of (line_text text)) (number_of (column_text text))
 
 abbrev pub is_large_kind : Kind → Bool
 is_large_kind Kind.Large = true
@@ -79,10 +79,10 @@ is_some_text (c ∷ cs) = true
 unfoldable pub is_word : List ℕ → Bool
 is_word text = is_some_text text && not (list_any is_blank (chars text))
 
-abbrev pub renaming_at : Option Pos → List ℕ → List ℕ → List ℕ → Option Renaming
-renaming_at None module_name new_name file = None
-renaming_at (Some pos) module_name new_name file =
-    Some (record { module_name = module_name; pos = pos; new_name = new_name; file = file })
+abbrev pub renaming_at : Option Pos → List ℕ → List ℕ → List (List ℕ) → Option Renaming
+renaming_at None module_name new_name files = None
+renaming_at (Some pos) module_name new_name files =
+    Some (record { module_name = module_name; pos = pos; new_name = new_name; files = files })
 
 abbrev pub are_words : List ℕ → List ℕ → List ℕ → List ℕ → Bool
 are_words verb module_name new_name keyword =
@@ -90,6 +90,6 @@ are_words verb module_name new_name keyword =
 
 -- the command that the words are, if they are one
 unfoldable pub renaming_of : List (List ℕ) → Option Renaming
-renaming_of (verb ∷ module_name ∷ place ∷ new_name ∷ keyword ∷ file ∷ []) =
-    if are_words verb module_name new_name keyword then renaming_at (pos_of place) module_name new_name file else None
+renaming_of (verb ∷ module_name ∷ place ∷ new_name ∷ keyword ∷ file ∷ files) =
+    if are_words verb module_name new_name keyword then renaming_at (pos_of place) module_name new_name (file ∷ files) else None
 renaming_of _ = None

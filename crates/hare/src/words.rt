@@ -10,23 +10,23 @@ ghost use Rattle.hare.specs.Shown.{shown};
 use hr_base::Pos;
 use hr_rules::{Kind, is_blank_char, is_in_name, kind_of};
 
-/// A renaming in a file: the module and the position of a name, and the new name.
+/// A renaming in a project of these files: the module and the position of a name, and the new name.
 #[derive(Clone, Copy, Debug)]
 pub struct Renaming<'a> {
     pub module: &'a str,
     pub pos: Pos,
     pub new: &'a str,
-    pub file: &'a str,
+    pub files: &'a [String],
 }
 
-/// The command that the words are: `rename MODULE LINE:COLUMN NAME in FILE`, where the module is a
-/// conid, line and column are numbers from 1 to 4,294,967,295 without leading zeros, and the name
-/// is one character or more, none of them a blank.
+/// The command that the words are: `rename MODULE LINE:COLUMN NAME in FILE ..`, where the module is a
+/// conid, line and column are numbers from 1 to 4,294,967,295 without leading zeros, the name is one
+/// character or more, none of them a blank, and there is a file.
 #[tactic(auto, unfolding(crate::specs::Words::renaming_of))]
 pub fn renaming_of(words: &[String]) -> Option<Renaming<'_>>
     ensures { MatchOption result (spec.renaming_of (map string_bytes words.now) ≡ None) (λ r. spec.renaming_of (map string_bytes words.now) ≡ Some (shown r)) }
 {
-    let [verb, module, place, new, keyword, file] = words else {
+    let [verb, module, place, new, keyword, _, ..] = words else {
         return None;
     };
     if !are_words(
@@ -37,15 +37,13 @@ pub fn renaming_of(words: &[String]) -> Option<Renaming<'_>>
     ) {
         return None;
     }
-    match pos_of(place.as_bytes()) {
-        Some(pos) => Some(Renaming {
-            module: module.as_str(),
-            pos,
-            new: new.as_str(),
-            file: file.as_str(),
-        }),
-        None => None,
-    }
+    let pos = pos_of(place.as_bytes())?;
+    Some(Renaming {
+        module: module.as_str(),
+        pos,
+        new: new.as_str(),
+        files: words.split_at(5).1,
+    })
 }
 
 fn are_words(verb: &str, module_name: &str, new: &str, keyword: &str) -> bool
@@ -96,13 +94,9 @@ fn has_blank(word: &str) -> bool
 fn pos_of(text: &[u8]) -> Option<Pos>
     ensures { result ≡ spec.pos_of text.now }
 {
-    match number(line_of(text)) {
-        Some(line) => match number(column_of(text)) {
-            Some(col) => Some(Pos { line, col }),
-            None => None,
-        },
-        None => None,
-    }
+    let line = number(line_text(text))?;
+    let col = number(column_text(text))?;
+    Some(Pos { line, col })
 }
 
 /// Where the first colon stands.
@@ -114,8 +108,8 @@ fn colon_of(text: &[u8]) -> Option<usize>
 }
 
 /// What stands before the first colon.
-fn line_of(text: &[u8]) -> &[u8]
-    ensures { result.now ≡ spec.line_of text.now }
+fn line_text(text: &[u8]) -> &[u8]
+    ensures { result.now ≡ spec.line_text text.now }
 {
     match colon_of(text) {
         Some(place) => text.split_at(place).0,
@@ -124,8 +118,8 @@ fn line_of(text: &[u8]) -> &[u8]
 }
 
 /// What stands behind it.
-fn column_of(text: &[u8]) -> &[u8]
-    ensures { result.now ≡ spec.column_of text.now }
+fn column_text(text: &[u8]) -> &[u8]
+    ensures { result.now ≡ spec.column_text text.now }
 {
     match colon_of(text) {
         Some(place) => text.split_at(place + 1).1,

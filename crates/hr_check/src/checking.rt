@@ -38,12 +38,7 @@ fn read_all(alloc: Global, texts: &[Text]) -> Result<Modules, LoadError> {
 }
 
 /// Reads the text of that number.
-fn read(
-    alloc: Global,
-    trees: &mut Modules,
-    text: usize,
-    bytes: &[u8],
-) -> Result<(), LoadError> {
+fn read(alloc: Global, trees: &mut Modules, text: usize, bytes: &[u8]) -> Result<(), LoadError> {
     match lex(alloc, bytes) {
         Err(error) => Err(LoadError::lexing(text, error)),
         Ok(items) => match parse(alloc, items) {

@@ -1,7 +1,7 @@
 //! Which module imports which: the Haskell 98 Report, sections 5.3 and 5.6.
 use hr_base::{Class, Lexeme, Place, Pos, Text};
-use hr_graph::ImportEdge;
 use hr_grading::positions;
+use hr_graph::ImportEdge;
 use hr_outline::{Outline, module_name, outline_of};
 use hr_tree::Module;
 use std::alloc::{AllocError, Global};

@@ -44,11 +44,7 @@ impl Fixities {
     }
 
     /// Those of one module. Behind the word of a declaration stands its level, or none, and its operators.
-    fn read(
-        &mut self,
-        marks: &[Mark<'_>],
-        entries: &[Option<Binder>],
-    ) -> Result<(), AllocError> {
+    fn read(&mut self, marks: &[Mark<'_>], entries: &[Option<Binder>]) -> Result<(), AllocError> {
         let mut stated = UNDECLARED;
         for (mark, entry) in marks.iter().zip(entries) {
             match (mark.role, entry) {

@@ -4,7 +4,9 @@
 mod fields;
 mod places;
 mod projects;
+mod steps;
 
-pub use fields::add_fields;
+pub use fields::{add_fields, add_texts};
 pub use places::{entity_text, place_at, place_text};
 pub use projects::project_refusal;
+pub use steps::step_refusal;

@@ -1,12 +1,11 @@
-ghost use Rattle.std.specs.Prelude.{◌≡◌, ◌∷◌, ◌++◌, [], OnOk, IfOk, IfSome, map, slice_index_or, Option, Some, None};
-ghost use Rattle.std.specs.Fmt.{decimal};
+ghost use Rattle.std.specs.Prelude.{◌≡◌, ◌∷◌, ◌++◌, ◌×◌, ℕ, [], OnOk, IfOk, map, slice_index_or, Some};
 ghost use Rattle.std.specs.List.{join_with_byte};
 ghost use Rattle.std.specs.String.{string_bytes};
 ghost use Rattle.hr_check.specs.Numbers.{load_number};
 ghost use Rattle.hr_report.specs.Projects as spec;
 ghost use Rattle.hr_report.specs.Projects.{refusal_text};
 
-use crate::{add_fields, entity_text, place_at, place_text};
+use crate::{add_fields, add_texts, entity_text, place_at, place_text};
 use hr_check::LoadError;
 use hr_exports::ExportError;
 use hr_fixity::FixityError;
@@ -14,7 +13,6 @@ use hr_graph::GraphError;
 use hr_lexer::LexError;
 use hr_parse_lexeme::ParseError;
 use hr_scope::ScopeError;
-use hr_base::Text;
 use std::alloc::{AllocError, Global};
 
 /// The number of a refusal and its fields, where the texts have these names of files.
@@ -127,18 +125,6 @@ fn add_graph(
         GraphError::ImportCycle { names } => add_texts(bytes, number, names.as_slice()),
         GraphError::Memory(_) => add_fields(bytes, number, &[]),
     }
-}
-
-/// Puts a first field and these at the end, with a blank between.
-fn add_texts(bytes: &mut Vec<u8>, first: &[u8], texts: &[Text]) -> Result<(), AllocError>
-    ensures { OnOk result (bytes.new.items ≡ bytes.old.items ++ join_with_byte 32 (first.now ∷ texts.now)) }
-{
-    bytes.extend_from_slice(first)?;
-    for text in texts {
-        bytes.push(b' ')?;
-        bytes.extend_from_slice(text.as_slice())?;
-    }
-    Ok(())
 }
 
 fn add_export(
