@@ -4,7 +4,7 @@ use hr_base::{Binder, Place, Pos, Seq, Text};
 use hr_fixity::{FixityError, Graded, Infix, Part, resolve};
 use hr_outline::{Outline, outline_of};
 use hr_rules::Reached;
-use hr_sequences::{Sequence, SequencePart, sequences};
+use hr_sequences::{Sequence, SequencePart, sequences_in};
 use hr_tree::Module;
 use std::alloc::{AllocError, Global};
 
@@ -48,7 +48,7 @@ pub fn grade(
 /// Where the lexemes of a module begin, and its sequences.
 fn read(alloc: Global, tree: &Module) -> Result<(Vec<Pos>, Vec<Sequence>), AllocError> {
     let outline = outline_of(alloc, tree)?;
-    Ok((positions(alloc, &outline)?, sequences(alloc, &outline)?))
+    Ok((positions(alloc, &outline)?, sequences_in(alloc, &outline)?))
 }
 
 /// Where the lexemes begin.
@@ -81,29 +81,27 @@ impl Scene<'_> {
     fn infix(&self, alloc: Global, sequence: &Sequence) -> Result<Infix, AllocError> {
         let mut list = Vec::new(alloc);
         for part in sequence.parts.as_slice() {
-            list.push(self.part(*part, sequence.is_pattern)?)?;
+            list.push(self.part(*part)?)?;
         }
         Ok(Infix {
             parts: Seq { list },
-            root: root_of(sequence)?,
+            root: sequence.root,
         })
     }
 
-    fn part(&self, part: SequencePart, is_pattern: bool) -> Result<Part, AllocError> {
+    fn part(&self, part: SequencePart) -> Result<Part, AllocError> {
         Ok(match part {
             SequencePart::Operand => Part::Operand,
-            SequencePart::Operator(item) => Part::Operator {
+            SequencePart::Operator { item } => Part::Operator {
                 place: self.place(item)?,
                 fixity: self.fixities.fixity_of(self.binder(item)),
             },
-            SequencePart::Minus(item) => {
-                let place = self.place(item)?;
-                if is_pattern {
-                    Part::PatternMinus { place }
-                } else {
-                    Part::Minus { place }
-                }
-            }
+            SequencePart::Minus { item } => Part::Minus {
+                place: self.place(item)?,
+            },
+            SequencePart::PatternMinus { item } => Part::PatternMinus {
+                place: self.place(item)?,
+            },
         })
     }
 
@@ -122,16 +120,5 @@ impl Scene<'_> {
             module: self.module.clone()?,
             pos: *pos,
         })
-    }
-}
-
-/// The number of the part that has to stand at the root.
-fn root_of(sequence: &Sequence) -> Result<Option<u32>, AllocError> {
-    match sequence.root {
-        Some(root) => match u32::try_from(root) {
-            Ok(root) => Ok(Some(root)),
-            Err(_) => Err(AllocError),
-        },
-        None => Ok(None),
     }
 }
