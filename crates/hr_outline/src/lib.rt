@@ -13,12 +13,10 @@ mod reading;
 mod regions;
 mod roles;
 mod spelling;
-mod standing;
 mod things;
 mod types;
 
 pub use modules::outline_of;
 pub use reading::{Entered, Joined, Mark, Outline};
 pub use spelling::{module_name, name_of, place_of};
-pub use standing::{Key, Names, key_of};
 pub use things::{Parts, own_entities, type_parts};

@@ -1,40 +1,24 @@
-use hr_base::{Entity, Space, Text};
+use crate::{Key, key_of};
+use hr_base::{Entity, Text};
 use indexmap::{IndexMap, IndexSet};
 use std::alloc::{AllocError, Global};
+use std::hash::Hash;
 
-/// A name of a space, under a qualifier or under none.
-#[derive(Clone, Debug, Drop, PartialEq, Eq, Hash)]
-pub struct Key {
-    pub qualifier: Option<Text>,
-    pub space: Space,
-    pub text: Text,
-}
-
-/// The entities that names stand for: what is in scope, or what a module exports. An entity stands under a name
-/// once.
+/// The entities that names stand for. An entity stands under a name once.
 #[derive(Drop)]
 pub struct Names {
     pub entries: IndexMap<Key, Vec<Entity>>,
+    /// Those under each qualifier.
+    qualified: IndexMap<Text, Vec<Entity>>,
     /// All of them, under whatever name.
     whole: IndexSet<Entity>,
-}
-
-pub fn key_of(qualifier: Option<&Text>, space: Space, text: &Text) -> Result<Key, AllocError> {
-    let qualifier = match qualifier {
-        Some(qualifier) => Some(qualifier.clone()?),
-        None => None,
-    };
-    Ok(Key {
-        qualifier,
-        space,
-        text: text.clone()?,
-    })
 }
 
 impl Names {
     pub fn new(alloc: Global) -> Names {
         Names {
             entries: IndexMap::new(alloc),
+            qualified: IndexMap::new(alloc),
             whole: IndexSet::new(alloc),
         }
     }
@@ -47,18 +31,14 @@ impl Names {
         entity: &Entity,
     ) -> Result<(), AllocError> {
         let key = key_of(qualifier, entity.space, &entity.text)?;
-        if !self.whole.contains(entity) {
-            self.whole.insert(entity.clone()?)?;
-        }
-        if let Some(others) = self.entries.get_mut(&key) {
-            if !others.iter().any(|other| other == entity) {
-                others.push(entity.clone()?)?;
-            }
+        if is_among(self.found(&key), entity) {
             return Ok(());
         }
-        let first = vec![in alloc; entity.clone()?]?;
-        self.entries.insert(key, first)?;
-        Ok(())
+        self.whole.insert(entity.clone()?)?;
+        if let Some(qualifier) = qualifier {
+            append(alloc, &mut self.qualified, qualifier.clone()?, entity)?;
+        }
+        append(alloc, &mut self.entries, key, entity)
     }
 
     /// The entities of the name.
@@ -72,7 +52,15 @@ impl Names {
     /// Whether the entity stands under its own spelling and the qualifier.
     pub fn has(&self, qualifier: Option<&Text>, entity: &Entity) -> Result<bool, AllocError> {
         let key = key_of(qualifier, entity.space, &entity.text)?;
-        Ok(self.found(&key).iter().any(|other| other == entity))
+        Ok(is_among(self.found(&key), entity))
+    }
+
+    /// The entities that stand under the qualifier.
+    pub fn under(&self, qualifier: &Text) -> &[Entity] {
+        match self.qualified.get(qualifier) {
+            Some(entities) => entities.as_slice(),
+            None => &[],
+        }
     }
 
     /// Whether the entity stands under any name.
@@ -84,4 +72,24 @@ impl Names {
     pub fn all(&self) -> &IndexSet<Entity> {
         &self.whole
     }
+}
+
+fn is_among(entities: &[Entity], entity: &Entity) -> bool {
+    entities.iter().any(|other| other == entity)
+}
+
+/// Adds the entity to those of the key.
+fn append<K: Drop + Eq + Hash>(
+    alloc: Global,
+    lists: &mut IndexMap<K, Vec<Entity>>,
+    key: K,
+    entity: &Entity,
+) -> Result<(), AllocError> {
+    if let Some(others) = lists.get_mut(&key) {
+        others.push(entity.clone()?)?;
+        return Ok(());
+    }
+    let first = vec![in alloc; entity.clone()?]?;
+    lists.insert(key, first)?;
+    Ok(())
 }
