@@ -10,12 +10,26 @@ pub struct TypeHead {
 }
 
 /// A constructor as a `data` or `newtype` declares it.
-#[derive(Drop)]
 pub enum Construction {
     Prefix(Constructor, Children<Ty>),
     Infix(Ty, Operator, Ty),
     /// `C {x, y :: t}`, which is not read yet.
     Fields(Constructor, Item, Seq<Listed<FieldType>>, Item),
+}
+
+impl Drop for Construction {
+    fn drop(self) {
+        match self {
+            Construction::Prefix(constructor, types) => let_go!(constructor, types),
+            Construction::Infix(first, operator, second) => let_go!(first, operator, second),
+            Construction::Fields(constructor, left, fields, right) => let_go!(
+                constructor,
+                left,
+                fields,
+                right
+            ),
+        }
+    }
 }
 
 /// The type of labelled fields.
@@ -28,20 +42,38 @@ pub struct FieldType {
 
 /// The left side of an equation: parentheses that left, the innermost left side, and behind each
 /// parenthesis that closes one pattern or more.
-#[derive(Drop)]
 pub struct LeftSide {
     pub opens: Seq<Item>,
     pub head: LeftHead,
     pub closes: Seq<Closed>,
 }
 
+impl Drop for LeftSide {
+    fn drop(self) {
+        let LeftSide {
+            opens,
+            head,
+            closes,
+        } = self;
+        let_go!(opens, head, closes);
+    }
+}
+
 /// A left side without parentheses round it.
-#[derive(Drop)]
 pub enum LeftHead {
     /// A variable and one pattern or more.
     Prefix(Variable, Children<Pat>),
     /// Two patterns and a variable operator between them.
     Infix(Pat, Operator, Pat),
+}
+
+impl Drop for LeftHead {
+    fn drop(self) {
+        match self {
+            LeftHead::Prefix(variable, patterns) => let_go!(variable, patterns),
+            LeftHead::Infix(first, operator, second) => let_go!(first, operator, second),
+        }
+    }
 }
 
 /// A closing parenthesis of a left side, with the patterns behind it.

@@ -7,7 +7,6 @@ use sqlite_items::{Boxed, Items as Children};
 
 /// An expression: the Haskell 98 Report, section 3.
 #[cycle(tree)]
-#[derive(Drop)]
 pub enum Exp {
     Variable(Variable),
     Constructor(Constructor),
@@ -49,7 +48,6 @@ pub enum Exp {
 
 /// A declaration: the Haskell 98 Report, section 4. The first four stand in a module's body alone.
 #[cycle(tree)]
-#[derive(Drop)]
 pub enum Decl {
     Import(Import),
     /// `type T a = t`
@@ -69,7 +67,6 @@ pub enum Decl {
 
 /// An alternative of a `case`.
 #[cycle(tree)]
-#[derive(Drop)]
 pub struct Alt {
     pub pattern: Pat,
     pub body: Body<Exp>,
@@ -78,9 +75,100 @@ pub struct Alt {
 
 /// A qualifier of a comprehension: `p <- e`, `let block`, or a test.
 #[cycle(tree)]
-#[derive(Drop)]
 pub enum Qualifier {
     Generator(Pat, Item, Boxed<Exp>),
     Locals(Item, Block<Decl>),
     Test(Boxed<Exp>),
+}
+
+impl Drop for Exp {
+    #[cycle(tree)]
+    fn drop(self) {
+        match self {
+            Exp::Variable(variable) => let_go!(variable),
+            Exp::Constructor(constructor) => let_go!(constructor),
+            Exp::Literal(item) => let_go!(item),
+            Exp::Group(left, inside, right) => let_go!(left, inside, right),
+            Exp::Tuple(left, parts, right) => let_go!(left, parts, right),
+            Exp::List(left, parts, right) => let_go!(left, parts, right),
+            Exp::From(left, first, dots, right) => let_go!(left, first, dots, right),
+            Exp::FromThen(left, first, comma, second, dots, right) => let_go!(
+                left, first, comma, second, dots, right
+            ),
+            Exp::FromTo(left, first, dots, last, right) => let_go!(left, first, dots, last, right),
+            Exp::FromThenTo(left, first, comma, second, dots, last, right) => let_go!(
+                left, first, comma, second, dots, last, right
+            ),
+            Exp::Comprehension(left, part, bar, qualifiers, right) => let_go!(
+                left, part, bar, qualifiers, right
+            ),
+            Exp::LeftSection(left, operand, operator, right) => let_go!(
+                left, operand, operator, right
+            ),
+            Exp::RightSection(left, operator, operand, right) => let_go!(
+                left, operator, operand, right
+            ),
+            Exp::Apply(atoms) => let_go!(atoms),
+            Exp::Infix(operands) => let_go!(operands),
+            Exp::Annotated(part, colons, ty) => let_go!(part, colons, ty),
+            Exp::Lambda(backslash, patterns, arrow, body) => let_go!(
+                backslash, patterns, arrow, body
+            ),
+            Exp::Let(let_word, block, in_word, body) => let_go!(let_word, block, in_word, body),
+            Exp::If(if_word, test, then_word, first, else_word, second) => let_go!(
+                if_word, test, then_word, first, else_word, second
+            ),
+            Exp::Case(case_word, part, of_word, block) => let_go!(case_word, part, of_word, block),
+            Exp::Fields(part, left, fields, right) => let_go!(part, left, fields, right),
+        }
+    }
+}
+
+impl Drop for Decl {
+    #[cycle(tree)]
+    fn drop(self) {
+        match self {
+            Decl::Import(import) => let_go!(import),
+            Decl::Synonym(word, head, equals, ty) => let_go!(word, head, equals, ty),
+            Decl::Data(word, head, equals, constructions) => let_go!(
+                word,
+                head,
+                equals,
+                constructions
+            ),
+            Decl::Newtype(word, head, equals, construction) => let_go!(
+                word,
+                head,
+                equals,
+                construction
+            ),
+            Decl::Signature(names, colons, ty) => let_go!(names, colons, ty),
+            Decl::Fixity(word, level, operators) => let_go!(word, level, operators),
+            Decl::Equation(left, body, locals) => let_go!(left, body, locals),
+            Decl::Binding(pattern, body, locals) => let_go!(pattern, body, locals),
+        }
+    }
+}
+
+impl Drop for Alt {
+    #[cycle(tree)]
+    fn drop(self) {
+        let Alt {
+            pattern,
+            body,
+            locals,
+        } = self;
+        let_go!(pattern, body, locals);
+    }
+}
+
+impl Drop for Qualifier {
+    #[cycle(tree)]
+    fn drop(self) {
+        match self {
+            Qualifier::Generator(pattern, arrow, part) => let_go!(pattern, arrow, part),
+            Qualifier::Locals(let_word, block) => let_go!(let_word, block),
+            Qualifier::Test(part) => let_go!(part),
+        }
+    }
 }

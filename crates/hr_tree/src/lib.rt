@@ -1,6 +1,12 @@
 //! The lossless tree of a module, what it yields, and which lexeme begins at a position.
 #![tactic(auto)]
 
+/// Ends the values one after another. The types of the tree that contain themselves are let go by hand, so that the
+/// crates above call these functions; a derived drop would be proved again in each of them.
+macro_rules! let_go {
+    ($($part:ident),*) => {{ $(drop($part);)* }};
+}
+
 mod declarations;
 mod expressions;
 mod lists;

@@ -2,11 +2,17 @@ use crate::{Block, Constructor, Decl, Listed, Variable};
 use hr_base::{Item, Seq, Text};
 
 /// A module, and the blanks and comments behind its last lexeme. One without a header is a body alone.
-#[derive(Drop)]
 pub struct Module {
     pub header: Option<Header>,
     pub body: Block<Decl>,
     pub tail: Text,
+}
+
+impl Drop for Module {
+    fn drop(self) {
+        let Module { header, body, tail } = self;
+        let_go!(header, body, tail);
+    }
 }
 
 /// `module M (..) where`
@@ -51,13 +57,25 @@ pub enum Member {
 }
 
 /// `import qualified M as N hiding (..)`
-#[derive(Drop)]
 pub struct Import {
     pub word: Item,
     pub qualified: Option<Item>,
     pub module: Item,
     pub alias: Option<Alias>,
     pub names: Option<ImportNames>,
+}
+
+impl Drop for Import {
+    fn drop(self) {
+        let Import {
+            word,
+            qualified,
+            module,
+            alias,
+            names,
+        } = self;
+        let_go!(word, qualified, module, alias, names);
+    }
 }
 
 /// `as N`

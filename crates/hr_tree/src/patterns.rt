@@ -3,7 +3,6 @@ use hr_base::Item;
 use sqlite_items::{Boxed, Items as Children};
 
 /// A pattern: the Haskell 98 Report, section 3.17.
-#[derive(Drop)]
 pub enum Pat {
     Variable(Variable),
     Wildcard(Item),
@@ -24,4 +23,29 @@ pub enum Pat {
     Group(Item, Boxed<Pat>, Item),
     /// `C {x = p}`, which is not read yet.
     Fields(Constructor, Item, Children<Listed<Field<Pat>>>, Item),
+}
+
+impl Drop for Pat {
+    fn drop(self) {
+        match self {
+            Pat::Variable(variable) => let_go!(variable),
+            Pat::Wildcard(item) => let_go!(item),
+            Pat::Literal(item) => let_go!(item),
+            Pat::Negative(minus, number) => let_go!(minus, number),
+            Pat::Constructor(constructor) => let_go!(constructor),
+            Pat::As(variable, at, pattern) => let_go!(variable, at, pattern),
+            Pat::Lazy(tilde, pattern) => let_go!(tilde, pattern),
+            Pat::Apply(constructor, patterns) => let_go!(constructor, patterns),
+            Pat::Infix(operands) => let_go!(operands),
+            Pat::Tuple(left, parts, right) => let_go!(left, parts, right),
+            Pat::List(left, parts, right) => let_go!(left, parts, right),
+            Pat::Group(left, inside, right) => let_go!(left, inside, right),
+            Pat::Fields(constructor, left, fields, right) => let_go!(
+                constructor,
+                left,
+                fields,
+                right
+            ),
+        }
+    }
 }
