@@ -1,0 +1,8 @@
+//! The files of a run: read in the order of their names, and replaced.
+#![tactic(auto)]
+
+mod reading;
+mod replacing;
+
+pub use reading::{PROJECT_LIMIT, Unread, read_files};
+pub use replacing::{Change, changes, replace_files};
