@@ -2,7 +2,7 @@
 use Rattle.std.proofs.Common.{◌≡◌, ◌≢◌, ◌⊎◌, inl, inr, ℕ, List, Option, Some, None, ◌∙◌, refl, subst}
 use Rattle.std.specs.FinMap.{get}
 use Rattle.hr_base.specs.Limits.{module_limit}
-use Rattle.hr_shelf.specs.Outside.{Files, HoldsMore, Reads, ToldOr}
+use Rattle.hr_shelf.specs.Outside.{Files, HoldsMore, HasBytes, ToldOr}
 use Rattle.hare.specs.declared.status.Status.{Status}
 use Rattle.hare.specs.Due.{Holds, IsDue, Answers, IsAnswered}
 use Rattle.hare.specs.Ends.{AreGood, Ends, IsRead, ReadFailed}
@@ -18,7 +18,7 @@ is_told text line e none = let bad : ◌≡◌ {A = Option (List ℕ)} (Some tex
 module _ (words : List (List ℕ)) (before after : Outside) (files : Files) (due : Status) (told : before.store.told ≡ Some files) (is : IsDue words files due) where
   -- the file that was read is among the files that are told
   holds : (renaming : Renaming) (old : List ℕ) → IsRead words before.store renaming old → Holds files renaming.file old
-  holds renaming old read = (subst (λ t. Reads t renaming.file old) told read.reads, read.within)
+  holds renaming old read = (subst (λ t. HasBytes t renaming.file old) told read.reads, read.within)
 
   -- a status that is due is the one that is
   due_is : (status : Status) → IsDue words files status → Answers words before after due status

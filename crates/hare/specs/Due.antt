@@ -2,14 +2,14 @@
 use Rattle.std.specs.Prelude.{◌≡◌, ◌≢◌, ◌≤◌, ℕ, List, length, Some, None, ◌⊎◌}
 use Rattle.std.specs.FinMap.{get}
 use Rattle.hr_base.specs.Limits.{module_limit}
-use Rattle.hr_shelf.specs.Outside.{Files, HoldsMore, Rose}
+use Rattle.hr_shelf.specs.Outside.{Files, HoldsMore, Output, Rose, Store}
 use Rattle.hr_plain.specs.declared.loading.LoadError.{LoadError}
 use Rattle.hr_plain.specs.declared.renaming.Why.{Why}
 use Rattle.hr_plain.specs.Refusals.{IsLoadRefusal}
 use Rattle.hare.specs.declared.status.Status.{Status}
 use Rattle.hare.specs.declared.status.Status.TheVariants.{Done, StepRefused, BadWords, BadScript, NotAccepted, ReadFault, WriteFault, ReportFault, Memory, OverLimit}
-use Rattle.hare.specs.Ends.{AreGood, IsStep, IsRefused, ReadFailed}
-use Rattle.hare.specs.Outsides.{Outside}
+use Rattle.hare.specs.Ends.{AreGood, IsStep, IsStepRefusal, ReadFailed}
+use Rattle.hare.specs.Outsides.{Outside, outside}
 use Rattle.hare.specs.Words.{Renaming, renaming_of}
 use Rattle.hare.specs.Report as report
 
@@ -21,7 +21,7 @@ Holds files file old = (get files file ≡ Some old) × (length old ≤ module_l
 abbrev pub IsDue : List (List ℕ) → Files → Status → Type 0
 IsDue words files Done = (renaming : Renaming) × (old new : List ℕ) × AreGood words renaming × Holds files renaming.file old × IsStep renaming old new
 IsDue words files StepRefused =
-    (renaming : Renaming) × (old : List ℕ) × (why : Why) × AreGood words renaming × Holds files renaming.file old × IsRefused renaming old why
+    (renaming : Renaming) × (old : List ℕ) × (why : Why) × AreGood words renaming × Holds files renaming.file old × IsStepRefusal renaming old why
     × (report.refused renaming why ≢ None)
 IsDue words files BadWords = renaming_of words ≡ None
 IsDue words files BadScript = ⊥
@@ -49,3 +49,8 @@ pub record IsAnswered (words : List (List ℕ)) (files : Files) (before after : 
   pub is : IsDue words files due
   pub only : (other : Status) → IsDue words files other → other ≡ due
   pub answers : Answers words before after due status
+
+-- so ended a run of these words over a shelf whose files are told
+abbrev pub AnswersTold : List (List ℕ) → Store → Output → Store → Output → Status → Type 0
+AnswersTold words store output next_store next_output status =
+    (files : Files) → store.told ≡ Some files → IsAnswered words files (outside store output) (outside next_store next_output) status

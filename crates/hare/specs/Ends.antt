@@ -3,7 +3,7 @@ use Rattle.std.specs.Prelude.{◌≡◌, ◌≤◌, ℕ, List, length, Some, Non
 use Rattle.std.specs.FinMap.{get}
 use Rattle.std.specs.Result.{result_unwrap_or}
 use Rattle.hr_base.specs.Limits.{module_limit}
-use Rattle.hr_shelf.specs.Outside.{Store, Output, HoldsMore, Reads, Rose, ToldOr}
+use Rattle.hr_shelf.specs.Outside.{Store, Output, HoldsMore, HasBytes, Rose, ToldOr}
 use Rattle.hr_plain_tree.specs.declared.tree.Module.{Module}
 use Rattle.hr_plain.specs.declared.loading.LoadError.{LoadError}
 use Rattle.hr_plain.specs.declared.renaming.Why.{Why}
@@ -12,7 +12,7 @@ use Rattle.hr_plain.specs.Refusals.{IsLoadRefusal}
 use Rattle.hr_plain.specs.Renaming.{IsRenamed, IsWhy}
 use Rattle.hare.specs.declared.status.Status.{Status}
 use Rattle.hare.specs.declared.status.Status.TheVariants.{Done, StepRefused, BadWords, BadScript, NotAccepted, ReadFault, WriteFault, ReportFault, Memory, OverLimit}
-use Rattle.hare.specs.Outsides.{Outside, OnlyRead, IsReplaced, IsLeft, IsWritten, IsBrokenOff}
+use Rattle.hare.specs.Outsides.{Outside, outside, OnlyRead, IsReplaced, IsLeft, IsWritten, IsBrokenOff}
 use Rattle.hare.specs.Words.{Renaming, renaming_of}
 use Rattle.hare.specs.Report as report
 
@@ -28,7 +28,7 @@ pub record IsStep (renaming : Renaming) (old new : List ℕ) : Type 0 where
   pub renamed : IsRenamed tree renaming.module_name renaming.pos renaming.new_name new
 
 -- the renaming is refused: the old bytes are a text of the plain form, and this is why
-pub record IsRefused (renaming : Renaming) (old : List ℕ) (why : Why) : Type 0 where
+pub record IsStepRefusal (renaming : Renaming) (old : List ℕ) (why : Why) : Type 0 where
   pub tree : Module
   pub plain : IsPlain old tree
   pub cause : IsWhy tree renaming.module_name renaming.pos renaming.new_name why
@@ -36,7 +36,7 @@ pub record IsRefused (renaming : Renaming) (old : List ℕ) (why : Why) : Type 0
 -- the bytes of the renaming's file, which a told shelf has under its name, and which are not too many
 pub record IsRead (words : List (List ℕ)) (before : Store) (renaming : Renaming) (old : List ℕ) : Type 0 where
   pub good : AreGood words renaming
-  pub reads : Reads before.told renaming.file old
+  pub reads : HasBytes before.told renaming.file old
   pub within : length old ≤ module_limit
 
 -- the reads of the renaming's file were refused once more
@@ -50,7 +50,7 @@ EndsWith words before after Done text =
     (renaming : Renaming) × (old new : List ℕ) × IsRead words before renaming old × IsStep renaming old new
     × IsReplaced renaming.file new before after × (text ≡ report.done renaming)
 EndsWith words before after StepRefused text =
-    (renaming : Renaming) × (old : List ℕ) × (why : Why) × IsRead words before renaming old × IsRefused renaming old why
+    (renaming : Renaming) × (old : List ℕ) × (why : Why) × IsRead words before renaming old × IsStepRefusal renaming old why
     × OnlyRead before after × (Some text ≡ report.refused renaming why)
 EndsWith words before after BadWords text =
     (renaming_of words ≡ None) × (after ≡ before) × (text ≡ report.bad_words)
@@ -84,6 +84,15 @@ Ends words before after ReportFault =
     (status : Status) × (text : List ℕ) × EndsWith words before.store after.store status text × IsBrokenOff text before.output after.output
 Ends words before after Memory = (after.store.told ≡ before.store.told) × (after.output ≡ before.output)
 Ends words before after status = Told words before after status
+
+-- so ended a run of these words that found the one shelf and sink and left the other ones
+abbrev pub Runs : List (List ℕ) → Store → Output → Store → Output → Status → Type 0
+Runs words store output next_store next_output status = Ends words (outside store output) (outside next_store next_output) status
+
+-- a run of whatever words are this renaming
+abbrev pub RunsFor : Renaming → Store → Output → Store → Output → Status → Type 0
+RunsFor renaming store output next_store next_output status =
+    (words : List (List ℕ)) → AreGood words renaming → Runs words store output next_store next_output status
 
 -- the status of an answer: that of want of memory where there is none
 abbrev pub status_of : {E : Type 0} → Result Status E → Status

@@ -1,12 +1,11 @@
-ghost use Rattle.std.specs.Prelude.{◌≡◌, ℕ, List, map, IfOk, Some};
+ghost use Rattle.std.specs.Prelude.{map, IfOk};
 ghost use Rattle.std.specs.String.{string_bytes};
-ghost use Rattle.hr_shelf.specs.Outside.{Files, IsReady, Store};
+ghost use Rattle.hr_shelf.specs.Outside.{IsReady};
 ghost use Rattle.hare.specs.declared.status.Status.{Status};
-ghost use Rattle.hare.specs.Due.{IsAnswered};
-ghost use Rattle.hare.specs.Ends.{AreGood, Ends, IsOffered, IsStep, status_of};
-ghost use Rattle.hare.specs.Outsides.{outside};
+ghost use Rattle.hare.specs.Due.{AnswersTold};
+ghost use Rattle.hare.specs.Ends.{IsOffered, Runs, RunsFor, status_of};
 ghost use Rattle.hare.specs.Shown.{shown};
-ghost use Rattle.hare.specs.Steps.{IsOutcome, WasRead, WasRefused};
+ghost use Rattle.hare.specs.Steps.{IsOutcome, RunsOn, RunsTo, RunsUnread};
 
 use crate::report;
 use crate::status::Status;
@@ -24,8 +23,8 @@ pub fn refactor<S: Shelf, K: Sink>(
     shelf: &mut S,
     out: &mut K,
 ) -> Status
-    ensures only { Ends (map string_bytes words.now) (outside (S.store shelf.old) (K.output out.old)) (outside (S.store shelf.new) (K.output out.new)) result }
-    ensures due { (files : Files) → (S.store shelf.old).told ≡ Some files → IsAnswered (map string_bytes words.now) files (outside (S.store shelf.old) (K.output out.old)) (outside (S.store shelf.new) (K.output out.new)) result }
+    ensures only { Runs (map string_bytes words.now) (S.store shelf.old) (K.output out.old) (S.store shelf.new) (K.output out.new) result }
+    ensures due { AnswersTold (map string_bytes words.now) (S.store shelf.old) (K.output out.old) (S.store shelf.new) (K.output out.new) result }
 {
     run(alloc, words, shelf, out).unwrap_or(Status::Memory)
 }
@@ -37,9 +36,9 @@ fn run<S: Shelf, K: Sink>(
     shelf: &mut S,
     out: &mut K,
 ) -> Result<Status, AllocError>
-    ensures { Ends (map string_bytes words.now) (outside (S.store shelf.old) (K.output out.old)) (outside (S.store shelf.new) (K.output out.new)) (status_of result) }
+    ensures { Runs (map string_bytes words.now) (S.store shelf.old) (K.output out.old) (S.store shelf.new) (K.output out.new) (status_of result) }
 {
-    match renaming_of(words) {
+    match renaming_of(alloc, words)? {
         Some(command) => rename_file(alloc, command, shelf, out),
         None => Ok(tell(out, report::bad_words(alloc)?, Status::BadWords)),
     }
@@ -52,7 +51,7 @@ fn rename_file<S: Shelf, K: Sink>(
     shelf: &mut S,
     out: &mut K,
 ) -> Result<Status, AllocError>
-    ensures { (words : List (List ℕ)) → AreGood words (shown command.entry) → Ends words (outside (S.store shelf.old) (K.output out.old)) (outside (S.store shelf.new) (K.output out.new)) (status_of result) }
+    ensures { RunsFor (shown command.entry) (S.store shelf.old) (K.output out.old) (S.store shelf.new) (K.output out.new) (status_of result) }
 {
     match shelf.read(alloc, command.file, MODULE_LIMIT) {
         Ok(bytes) => rename_bytes(alloc, command, bytes.as_slice(), shelf, out),
@@ -67,7 +66,7 @@ fn tell_unread<K: Sink>(
     error: ReadError,
     out: &mut K,
 ) -> Result<Status, AllocError>
-    ensures { (words : List (List ℕ)) (start now : Store) → AreGood words (shown command.entry) → WasRefused (shown command.entry) error start now → Ends words (outside start (K.output out.old)) (outside now (K.output out.new)) (status_of result) }
+    ensures { RunsUnread (shown command.entry) error (K.output out.old) (K.output out.new) (status_of result) }
 {
     match error {
         ReadError::Absent | ReadError::Failed => {
@@ -79,7 +78,7 @@ fn tell_unread<K: Sink>(
 }
 
 /// What became of the command in memory.
-#[derive(Debug, Drop)]
+#[derive(Drop)]
 enum Step {
     Renamed(Text),
     NotAccepted(LoadError),
@@ -95,7 +94,7 @@ fn rename_bytes<S: Shelf, K: Sink>(
     out: &mut K,
 ) -> Result<Status, AllocError>
     requires { IsReady (S.store shelf.old).ready command.file.now }
-    ensures { (words : List (List ℕ)) (start : Store) → AreGood words (shown command.entry) → WasRead (shown command.entry) bytes.now start (S.store shelf.old) → Ends words (outside start (K.output out.old)) (outside (S.store shelf.new) (K.output out.new)) (status_of result) }
+    ensures { RunsOn (shown command.entry) bytes.now (S.store shelf.old) (K.output out.old) (S.store shelf.new) (K.output out.new) (status_of result) }
 {
     match take_step(alloc, command, bytes)? {
         Step::Renamed(new) => replace_file(alloc, command, &new, shelf, out),
@@ -135,7 +134,7 @@ fn replace_file<S: Shelf, K: Sink>(
     out: &mut K,
 ) -> Result<Status, AllocError>
     requires { IsReady (S.store shelf.old).ready command.file.now }
-    ensures { (words : List (List ℕ)) (old : List ℕ) (start : Store) → AreGood words (shown command.entry) → WasRead (shown command.entry) old start (S.store shelf.old) → IsStep (shown command.entry) old new.now → Ends words (outside start (K.output out.old)) (outside (S.store shelf.new) (K.output out.new)) (status_of result) }
+    ensures { RunsTo (shown command.entry) new.now (S.store shelf.old) (K.output out.old) (S.store shelf.new) (K.output out.new) (status_of result) }
 {
     let bytes = new.to_vec(alloc)?;
     let done = report::done(alloc, command)?;

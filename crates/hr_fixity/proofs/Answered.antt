@@ -11,7 +11,7 @@ use Rattle.hr_fixity.specs.declared.stack.Open.{Open}
 use Rattle.hr_fixity.specs.declared.tree.Graded.{Graded}
 use Rattle.hr_fixity.specs.declared.tree.Graded.TheVariants as tree
 use Rattle.hr_fixity.specs.Sequence.{IsInfixSequence}
-use Rattle.hr_fixity.specs.Resolved.{IsConflict, IsMemory, IsRefused, IsResolved, ShowsPair, beside, place_at, place_of}
+use Rattle.hr_fixity.specs.Resolved.{IsConflict, IsMemory, IsRefused, IsResolved, ShowsPair, beside, place_at, operator_place}
 use Rattle.hr_fixity.specs.Reader.{IsFirstUntaken, close_all, run}
 use Rattle.hr_fixity.proofs.Complete.{complete, finishes_once}
 use Rattle.hr_fixity.proofs.Rooted.{sound}
@@ -37,8 +37,8 @@ module _ (seq : Infix) (is : IsInfixSequence seq) where
         let one : IsSome (place_at (beside (take k seq.parts) stop.part)) = left_there seq.root seq.parts k stop.part stop.stack is.root stop.taken stop.stops in
         subst (λ p. IsSome (place_at (beside before p))) (sym here) (subst (λ ps. IsSome (place_at (beside ps stop.part))) (sym front) one)
 
-    pub right_place : IsSome (place_of q)
-    right_place = subst (λ p. IsSome (place_of p)) (sym here) (right_there seq.root k stop.part stop.stack stop.stops)
+    pub right_place : IsSome (operator_place q)
+    right_place = subst (λ p. IsSome (operator_place p)) (sym here) (right_there seq.root k stop.part stop.stack stop.stops)
 
     conflict : (error : FixityError) → ShowsPair before q error → IsConflict seq error
     conflict error shows =

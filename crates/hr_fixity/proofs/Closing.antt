@@ -57,7 +57,7 @@ fit_operand n (negation os ps p s opens) = lower 7 10 n (part.Operand ∷ []) (t
 fit_operand n (literal os ps p s opens) = (refl, refl)
 
 -- the innermost operator closed over its right operand, and what stays open
-pub record Closed (o : Open) (os : List Open) (ps qs : List Part) (t : Graded) : Type 0 where
+pub record InnermostClosed (o : Open) (os : List Open) (ps qs : List Part) (t : Graded) : Type 0 where
   pub front : List Part
   pub back : List Part
   pub spine : Spine os front
@@ -68,7 +68,7 @@ pub record Closed (o : Open) (os : List Open) (ps qs : List Part) (t : Graded) :
 
 abbrev pub Closing : List Open → List Part → Type 0
 Closing [] ps = Unit {0}
-Closing (o ∷ os) ps = (qs : List Part) (t : Graded) → Fit (o ∷ os) (length ps) qs t → Closed o os ps qs t
+Closing (o ∷ os) ps = (qs : List Part) (t : Graded) → Fit (o ∷ os) (length ps) qs t → InnermostClosed o os ps qs t
 
 length-operator : (ps ls : List Part) (q : Part) → length (ps ++ (ls ++ (q ∷ []))) ≡ suc (length ps + length ls)
 length-operator ps ls q = omega (arith, length-append ps (ls ++ (q ∷ [])), length-append ls (q ∷ []))
@@ -132,7 +132,7 @@ pub left_sound : (os : List Open) (ps qs : List Part) (t : Graded) (f : Fixity) 
     → LeftSound ps qs f (with_left_operand os t f)
 left_sound [] ps qs t f s fit l = record { front = ps; back = qs; spine = s; same = refl; fit = l; opens = refl }
 left_sound (o ∷ os) ps qs t f s fit l =
-    let c : Closed o os ps qs t = closing s qs t fit in
+    let c : InnermostClosed o os ps qs t = closing s qs t fit in
     by (turn_of o f) refl (λ e. left_same ps qs c.front c.back f (with_left_operand os (close o t) f) c.same
     (left_sound os c.front c.back (close o t) f c.spine
     (fit_node os (fixity_of o) (length c.front) c.back (close o t) c.small c.opens c.node)
@@ -155,6 +155,6 @@ close_all_sound [] ps qs t s fit =
     let one : Grades (Any 0) (length {A = Part} []) qs t = subst (λ rs. Grades (Any 0) (length rs) qs t) e fit in
     subst (λ rs. Grades (Any 0) 0 (rs ++ qs) t) (sym e) one
 close_all_sound (o ∷ os) ps qs t s fit =
-    let c : Closed o os ps qs t = closing s qs t fit in
+    let c : InnermostClosed o os ps qs t = closing s qs t fit in
     subst (λ rs. Grades (Any 0) 0 rs (close_all os (close o t))) c.same
     (close_all_sound os c.front c.back (close o t) c.spine (fit_node os (fixity_of o) (length c.front) c.back (close o t) c.small c.opens c.node))

@@ -19,7 +19,7 @@ use Rattle.hr_fixity.proofs.Turns.{Looser, Within, closes_above, opens_below, cl
 use Rattle.hr_fixity.proofs.Running.{AllClose, AllClose-append, run-append, close_all-append, step-operator}
 
 -- from the stack os the reader puts the right edge of the tree on it, which everything looser closes
-pub record Reads (root : Option ℕ) (x : Nonterminal) (n : ℕ) (ps : List Part) (t : Graded) (os : List Open) : Type 0 where
+pub record PutsEdge (root : Option ℕ) (x : Nonterminal) (n : ℕ) (ps : List Part) (t : Graded) (os : List Open) : Type 0 where
   pub edge : List Open
   pub runs : run root n ps os ≡ Some (edge ++ os)
   pub whole : close_all edge (tree.Operand (n + length ps - 1)) ≡ t
@@ -57,10 +57,10 @@ free_right root n n' m o os le free r e = by (free r e)
 
 -- an operator between what its operands read
 pub binary : (root : Option ℕ) (x y z : Nonterminal) (n : ℕ) (p : _) (f : Fixity) (ls rs : List Part) (l r : Graded) (os : List Open)
-    → Reads root y n ls l os → Reads root z (suc (n + length ls)) rs r (open_.Operator (n + length ls) f l ∷ os)
+    → PutsEdge root y n ls l os → PutsEdge root z (suc (n + length ls)) rs r (open_.Operator (n + length ls) f l ∷ os)
     → keeps_root root (n + length ls) (nothing_open os) ≡ true → turn_at os f ≡ Opens → Looser y f
     → ((g : Fixity) → Looser x g → (turn_between f g ≡ Closes) × Looser z g)
-    → Reads root x n (ls ++ (part.Operator p f ∷ rs)) (tree.Binary (n + length ls) l r) os
+    → PutsEdge root x n (ls ++ (part.Operator p f ∷ rs)) (tree.Binary (n + length ls) l r) os
 binary root x y z n p f ls rs l r os before behind keeps opens looser down = record {
   edge = behind.edge ++ (o ∷ []);
   runs = run-append root n k ls (part.Operator p f ∷ rs) os refl ∙ ap (option_and_then (run root k (part.Operator p f ∷ rs))) before.runs
@@ -80,7 +80,7 @@ binary root x y z n p f ls rs l r os before behind keeps opens looser down = rec
     last = omega (arith, length-append ls (part.Operator p f ∷ rs))
 
 looser_than : (root : Option ℕ) (x y : Nonterminal) (n : ℕ) (ps : List Part) (t : Graded) (os : List Open) → ((f : Fixity) → Looser x f → Looser y f)
-    → Reads root y n ps t os → Reads root x n ps t os
+    → PutsEdge root y n ps t os → PutsEdge root x n ps t os
 looser_than root x y n ps t os looser r = record { edge = r.edge; runs = r.runs; whole = r.whole; closes = λ f h. r.closes f (looser f h) }
 
 free_minus : (root : Option ℕ) (n : ℕ) (p : Part) (ps : List Part) (o : Open) (os : List Open) → Free root n (n + length (p ∷ ps)) os → Free root (suc n) (suc n + length ps) (o ∷ os)
@@ -115,7 +115,7 @@ within_right i f (inr h) = let e : f.level ≡ i = h.0 in omega arith
 
 -- a prefix minus before what its operand reads
 pub negation : (root : Option ℕ) (n : ℕ) (p : _) (ps : List Part) (t : Graded) (os : List Open) → turn_at os reader.minus ≡ Opens
-    → Reads root (Any 7) (suc n) ps t (open_.Minus n ∷ os) → Reads root (LeftOnly 6) n (part.Minus p ∷ ps) (tree.Negated n t) os
+    → PutsEdge root (Any 7) (suc n) ps t (open_.Minus n ∷ os) → PutsEdge root (LeftOnly 6) n (part.Minus p ∷ ps) (tree.Negated n t) os
 negation root n p ps t os opens r = record {
   edge = r.edge ++ (open_.Minus n ∷ []);
   runs = ap (option_and_then (run root (suc n) ps)) opened ∙ r.runs ∙ ap Some (sym (append_assoc r.edge (open_.Minus n ∷ []) os));
@@ -130,7 +130,7 @@ negation root n p ps t os opens r = record {
     last = omega arith
 
 pub pattern_negation : (root : Option ℕ) (n : ℕ) (p : _) (os : List Open) → turn_at os reader.minus ≡ Opens
-    → Reads root (LeftOnly 6) n (part.PatternMinus p ∷ part.Operand ∷ []) (tree.Negated n (tree.Operand (suc n))) os
+    → PutsEdge root (LeftOnly 6) n (part.PatternMinus p ∷ part.Operand ∷ []) (tree.Negated n (tree.Operand (suc n))) os
 pattern_negation root n p os opens = record {
   edge = open_.PatternMinus n ∷ [];
   runs = ap (option_and_then (run root (suc n) (part.Operand ∷ []))) opened;
@@ -144,7 +144,7 @@ pattern_negation root n p os opens = record {
     last : n + length (part.PatternMinus p ∷ part.Operand ∷ []) - 1 ≡ suc n
     last = omega arith
 
-pub reads : (root : Option ℕ) {x : Nonterminal} {n : ℕ} {ps : List Part} {t : Graded} (os : List Open) → Grades x n ps t → Free root n (n + length ps) os → Takes os x → Reads root x n ps t os
+pub reads : (root : Option ℕ) {x : Nonterminal} {n : ℕ} {ps : List Part} {t : Graded} (os : List Open) → Grades x n ps t → Free root n (n + length ps) os → Takes os x → PutsEdge root x n ps t os
 reads root os (operand n) free takes = record { edge = []; runs = refl; whole = let e : n + length (part.Operand ∷ []) - 1 ≡ n = omega arith in ap tree.Operand e; closes = λ f h. tt }
 reads root os (higher i n ps t small d) free takes =
     looser_than root (Any i) (Any (suc i)) n ps t os (λ f h. omega arith) (reads root os d free (λ f h. takes f (omega arith)))
@@ -195,11 +195,11 @@ free_until r n m h k same = let is : r ≡ k = cc in inl (omega arith)
 
 -- an operator at the root that is demanded
 rooted : (r : ℕ) (x y z : Nonterminal) (n : ℕ) (p : _) (f : Fixity) (ls rs : List Part) (l t : Graded) → n + length ls ≡ r
-    → (Free (Some r) n (n + length ls) [] → Reads (Some r) y n ls l [])
+    → (Free (Some r) n (n + length ls) [] → PutsEdge (Some r) y n ls l [])
     → (Free (Some r) (suc (n + length ls)) (suc (n + length ls) + length rs) (open_.Operator (n + length ls) f l ∷ [])
-    → Reads (Some r) z (suc (n + length ls)) rs t (open_.Operator (n + length ls) f l ∷ []))
+    → PutsEdge (Some r) z (suc (n + length ls)) rs t (open_.Operator (n + length ls) f l ∷ []))
     → Looser y f → ((g : Fixity) → Looser x g → (turn_between f g ≡ Closes) × Looser z g)
-    → Reads (Some r) x n (ls ++ (part.Operator p f ∷ rs)) (tree.Binary (n + length ls) l t) []
+    → PutsEdge (Some r) x n (ls ++ (part.Operator p f ∷ rs)) (tree.Binary (n + length ls) l t) []
 rooted r x y z n p f ls rs l t here before behind looser down =
     binary (Some r) x y z n p f ls rs l t []
     (before (free_until r n (n + length ls) (omega arith)))
@@ -212,7 +212,7 @@ rooted r x y z n p f ls rs l t here before behind looser down =
     keeps : keeps_root (Some r) (n + length ls) true ≡ true
     keeps = rw (le-ltb (n + length ls) r le, eq-eqb (n + length ls) r here) refl
 
-pub reads_rooted : (r : ℕ) {x : Nonterminal} {n : ℕ} {ps : List Part} {t : Graded} (l u : Graded) → Grades x n ps t → t ≡ tree.Binary r l u → Reads (Some r) x n ps t []
+pub reads_rooted : (r : ℕ) {x : Nonterminal} {n : ℕ} {ps : List Part} {t : Graded} (l u : Graded) → Grades x n ps t → t ≡ tree.Binary r l u → PutsEdge (Some r) x n ps t []
 reads_rooted r l u (operand n) e = absurd (cc)
 reads_rooted r l u (higher i n ps t small d) e =
     looser_than (Some r) (Any i) (Any (suc i)) n ps t [] (λ f h. omega arith) (reads_rooted r l u d e)
@@ -252,7 +252,7 @@ reads_rooted r l u (right_right i n ls rs a b p dl dr) e =
 abbrev pub Finishes : Option ℕ → List Part → Graded → Type 0
 Finishes root ps t = (os : List Open) × (run root 0 ps [] ≡ Some os) × (close_all os (tree.Operand (length ps - 1)) ≡ t)
 
-finishes : (root : Option ℕ) (x : Nonterminal) (ps : List Part) (t : Graded) → Reads root x 0 ps t [] → Finishes root ps t
+finishes : (root : Option ℕ) (x : Nonterminal) (ps : List Part) (t : Graded) → PutsEdge root x 0 ps t [] → Finishes root ps t
 finishes root x ps t r =
     let e : 0 + length ps - 1 ≡ length ps - 1 = omega arith in
     (r.edge, r.runs ∙ ap Some (append-nil r.edge), ap (λ i. close_all r.edge (tree.Operand i)) (sym e) ∙ r.whole)

@@ -9,7 +9,7 @@ use Rattle.hr_fixity.specs.declared.sequence.Part.{Part}
 use Rattle.hr_fixity.specs.declared.sequence.Part.TheVariants as part
 use Rattle.hr_fixity.specs.declared.stack.Open.{Open}
 use Rattle.hr_fixity.specs.Sequence.{IsRootOf}
-use Rattle.hr_fixity.specs.Resolved.{is_operator, is_within, place_of, place_at, beside}
+use Rattle.hr_fixity.specs.Resolved.{is_operator, is_within, operator_place, place_at, beside}
 use Rattle.hr_fixity.specs.Reader.{run, take_part}
 
 is_found : {X : Type 0} (p : X → Bool) (xs : List X) (k : ℕ) (x : X) → slice_get xs k ≡ Some x → p x ≡ true → is_some (find p (reverse xs)) ≡ true
@@ -72,7 +72,7 @@ alone (Some r) k (part.Operator p f) e = by (nat_lt k r) refl (nat_eq k r) refl
     by false ea true eb = absurd (let bad = rw (ea, eb) at e in cc)
     by false ea false eb = let le : r ≤ k = ltb-false k r ea in (r, refl, grind arith)
 
-place_there : (y : Part) → is_operator y ≡ true → IsSome (place_of y)
+place_there : (y : Part) → is_operator y ≡ true → IsSome (operator_place y)
 place_there part.Operand h = absurd (cc)
 place_there (part.Operator p f) h = refl
 place_there (part.Minus p) h = refl
@@ -101,7 +101,7 @@ some_beside before (part.Operator p f) h = by (find (is_within f.level) (reverse
     by None e = some_last (reverse before) h
     by (Some y) e = place_there y (within_operator f.level y (find_holds (is_within f.level) (reverse before) y e))
 
-pub right_there : (root : Option ℕ) (k : ℕ) (q : Part) (os : List Open) → take_part root k q os ≡ None → IsSome (place_of q)
+pub right_there : (root : Option ℕ) (k : ℕ) (q : Part) (os : List Open) → take_part root k q os ≡ None → IsSome (operator_place q)
 right_there root k part.Operand os e = absurd (cc)
 right_there root k (part.Operator p f) os e = refl
 right_there root k (part.Minus p) os e = refl

@@ -42,11 +42,11 @@ level_of (Operator p f) = Some f.level
 level_of (Minus p) = Some 6
 level_of (PatternMinus p) = Some 6
 
-abbrev pub place_of : Part → Option Place
-place_of Operand = None
-place_of (Operator p f) = Some p
-place_of (Minus p) = Some p
-place_of (PatternMinus p) = Some p
+abbrev pub operator_place : Part → Option Place
+operator_place Operand = None
+operator_place (Operator p f) = Some p
+operator_place (Minus p) = Some p
+operator_place (PatternMinus p) = Some p
 
 -- an operator, a prefix minus among them
 abbrev pub is_operator : Part → Bool
@@ -64,11 +64,11 @@ beside before _ = find is_operator (reverse before)
 
 abbrev pub place_at : Option Part → Option Place
 place_at None = None
-place_at (Some p) = place_of p
+place_at (Some p) = operator_place p
 
 -- the places of the pair that is shown where the part behind the parts of before is the first that can't stand there
 abbrev pub ShowsPair : List Part → Part → FixityError → Type 0
-ShowsPair before p (FixityConflict left right) = (place_at (beside before p) ≡ Some left) × (place_of p ≡ Some right)
+ShowsPair before p (FixityConflict left right) = (place_at (beside before p) ≡ Some left) × (operator_place p ≡ Some right)
 ShowsPair before p (Memory e) = Unit {0}
 
 -- right is the first operator up to whose right operand the sequence has no tree

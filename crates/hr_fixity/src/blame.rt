@@ -1,7 +1,7 @@
 ghost use Rattle.std.specs.Prelude.{◌≡◌, IfOk, IsSome, reverse, Some};
 ghost use Rattle.std.specs.List.{find};
 ghost use Rattle.std.specs.Option.{option_copied};
-ghost use Rattle.hr_fixity.specs.Resolved.{ShowsPair, beside, is_operator, is_within, level_of, place_at, place_of};
+ghost use Rattle.hr_fixity.specs.Resolved.{ShowsPair, beside, is_operator, is_within, level_of, place_at, operator_place};
 ghost use Rattle.hr_fixity.specs.declared.sequence.Part.TheVariants.{Operator};
 
 use crate::{FixityError, Part};
@@ -22,7 +22,7 @@ fn level(part: &Part) -> Option<u8>
 
 /// The place of an operator or a prefix minus.
 fn place(part: &Part) -> Option<&Place>
-    ensures { option_copied result ≡ place_of part.now }
+    ensures { option_copied result ≡ operator_place part.now }
 {
     match part {
         Part::Operand => None,
@@ -80,7 +80,7 @@ fn shown_beside<'a>(before: &'a [Part], part: &Part) -> Option<&'a Part>
 /// The refusal of the operator behind these parts.
 pub fn conflict(before: &[Part], part: &Part) -> FixityError
     requires left { IsSome (place_at (beside before.now part.now)) }
-    requires right { IsSome (place_of part.now) }
+    requires right { IsSome (operator_place part.now) }
     ensures { ShowsPair before.now part.now result }
 {
     match shown_beside(before, part) {

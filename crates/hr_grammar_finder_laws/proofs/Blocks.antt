@@ -18,7 +18,7 @@ use Rattle.hr_grammar_cases.specs.Blocks.{Parts, takes_semicolon, pieces_reading
 use Rattle.hr_grammar_finder_laws.specs.Ways.{Among, Way, Finder, gives, made_by, followed_by, ◌▶◌, one}
 use Rattle.hr_grammar_finder_laws.specs.Tests.{is_special}
 use Rattle.hr_grammar_finder_laws.specs.Blocks.{PartFinder, semicolon, ends, starting, semicolon_then, part_then, piece_ways, pieces_by, pieces, braced_ways, braced_by, braced, opened_as, implicit, without_braces, with_braces, block_ways, block}
-use Rattle.hr_grammar_finder_laws.proofs.Ways.{Sound, Matches, is_sound, gives_sound, made_sound, made_found, on_sound_by, on_sound, found_on, behind_sound, behind_found, any_sound, chosen, among_map, if_among, among_if, both_are, are_both, one_matches, then_matches}
+use Rattle.hr_grammar_finder_laws.proofs.Ways.{Sound, Matches, is_sound, gives_sound, made_sound, made_found, on_sound_by, on_sound, found_on, followed_by_sound, followed_by_found, any_sound, chosen, among_map, if_among, among_if, both_are, are_both, one_matches, then_matches}
 use Rattle.hr_grammar_finder_laws.proofs.Tests.{tests_special}
 use Rattle.hr_grammar_finder_laws.proofs.Lists.{shorter, none_left, all_fit}
 use Rattle.hr_grammar_finder_laws.proofs.Names.{one_shrinks}
@@ -89,7 +89,7 @@ part_sound {T} parts found m kind n place ending rest s = made_sound part_then (
         (
           p.0.1.0,
           p.0.1.1,
-          (behind_sound {R = λ (q : T × (DeclPlace × Ending)). parts n place q.1.0 q.0 q.1.1} {Q = λ (q : T × (DeclPlace × Ending)). pieces_reading parts kind n q.1.0 q.1.1}
+          (followed_by_sound {R = λ (q : T × (DeclPlace × Ending)). parts n place q.1.0 q.0 q.1.1} {Q = λ (q : T × (DeclPlace × Ending)). pieces_reading parts kind n q.1.0 q.1.1}
               (is_sound (m n place)) (λ q. s q.1.0 q.1.1)).sound p (mark false ts) us k.1,
         ),
       );
@@ -102,7 +102,7 @@ pieces_sound {T} parts found m kind n (suc k) place ending =
     any_sound (piece_ways found kind n place ending (pieces_by found kind n k)) (
       ends_sound parts kind n place ending,
       (
-        made_sound semicolon_then (behind_sound {R = λ item. given (IsSemicolon item) (takes_semicolon n item)} {Q = λ item. pieces_reading parts kind n place Ending.Nothing}
+        made_sound semicolon_then (followed_by_sound {R = λ item. given (IsSemicolon item) (takes_semicolon n item)} {Q = λ item. pieces_reading parts kind n place Ending.Nothing}
             (is_sound (semicolon_matches n)) (λ item. pieces_sound parts found m kind n k place Ending.Nothing)),
         (part_sound parts found m kind n place ending (pieces_by found kind n k) (λ next end. pieces_sound parts found m kind n k next end), tt),
       ),
@@ -130,13 +130,13 @@ pieces_complete {T} parts found m less kind n (suc k) place ending [] ts us l r 
 pieces_complete {T} parts found m less kind n (suc k) place ending (Piece.Semicolon item ∷ xs) ts us l r =
     chosen (piece_ways found kind n place ending (pieces_by found kind n k)) 1 _ ts us
     (made_found semicolon_then (semicolon n ▶ pieces_by found kind n k place Ending.Nothing) (item, xs) ts us
-    (behind_found (semicolon n) (λ x. pieces_by found kind n k place Ending.Nothing) item xs ts r.0 us ((semicolon_matches n).complete item ts r.0 r.1)
+    (followed_by_found (semicolon n) (λ x. pieces_by found kind n k place Ending.Nothing) item xs ts r.0 us ((semicolon_matches n).complete item ts r.0 r.1)
     (pieces_complete parts found m less kind n k place Ending.Nothing xs r.0 us (shorter (length r.0) (length ts) k (semicolon_shrinks n item ts r.0 r.1.1) l) r.2)))
 pieces_complete {T} parts found m less kind n (suc k) place ending (Piece.Part part ∷ xs) ts us l r =
     chosen (piece_ways found kind n place ending (pieces_by found kind n k)) 2 _ ts us
     (made_found part_then (starting n ending (followed_by (found n place) (λ q. pieces_by found kind n k q.1.0 q.1.1))) ((part, (r.2.0, r.2.1)), xs) ts us
     (found_on (starts_part n ending ts) (followed_by (found n place) (λ q. pieces_by found kind n k q.1.0 q.1.1)) (((part, (r.2.0, r.2.1)), xs), us) (mark false ts) r.1.0
-    (behind_found (found n place) (λ q. pieces_by found kind n k q.1.0 q.1.1) (part, (r.2.0, r.2.1)) xs (mark false ts) r.2.2.0 us
+    (followed_by_found (found n place) (λ q. pieces_by found kind n k q.1.0 q.1.1) (part, (r.2.0, r.2.1)) xs (mark false ts) r.2.2.0 us
     ((m n place).complete (part, (r.2.0, r.2.1)) (mark false ts) r.2.2.0 (subst (λ vs. parts n place r.2.0 part r.2.1 vs r.2.2.0) r.1.1 r.2.2.1))
     (pieces_complete parts found m less kind n k r.2.0 r.2.1 xs r.2.2.0 us (marked_fits k ts r.0 r.2.2.0 r.1.1 (less n place r.2.0 part r.2.1 r.0 r.2.2.0 r.2.2.1) l) r.2.2.2))))
 
@@ -155,7 +155,7 @@ braced_sound {T} parts found m (suc k) place begins =
     any_sound (braced_ways found place begins (braced_by found k)) (
       gives_sound (λ ts. refl),
       (
-        made_sound semicolon_then (behind_sound {R = reading.one 0 IsSemicolon} {Q = λ item. braced_reading parts place true} (is_sound (one_matches 0 (tests_special (codes ";"))))
+        made_sound semicolon_then (followed_by_sound {R = reading.one 0 IsSemicolon} {Q = λ item. braced_reading parts place true} (is_sound (one_matches 0 (tests_special (codes ";"))))
             (λ item. braced_sound parts found m k place true)),
         (
           on_sound begins (λ e. made_sound part_then (record {
@@ -164,7 +164,7 @@ braced_sound {T} parts found m (suc k) place begins =
               (
                 p.0.1.0,
                 p.0.1.1,
-                (behind_sound {R = λ (q : T × (DeclPlace × Ending)). parts 0 place q.1.0 q.0 q.1.1} {Q = λ (q : T × (DeclPlace × Ending)). braced_reading parts q.1.0 false}
+                (followed_by_sound {R = λ (q : T × (DeclPlace × Ending)). parts 0 place q.1.0 q.0 q.1.1} {Q = λ (q : T × (DeclPlace × Ending)). braced_reading parts q.1.0 false}
                     (is_sound (m 0 place)) (λ q. braced_sound parts found m k q.1.0 false)).sound p ts us h,
               ),
             );
@@ -184,13 +184,13 @@ braced_complete parts found m less (suc k) place begins [] ts us l r = chosen (b
 braced_complete parts found m less (suc k) place begins (Piece.Semicolon item ∷ xs) ts us l r =
     chosen (braced_ways found place begins (braced_by found k)) 1 _ ts us
     (made_found semicolon_then (one 0 (is_special (codes ";")) ▶ braced_by found k place true) (item, xs) ts us
-    (behind_found (one 0 (is_special (codes ";"))) (λ x. braced_by found k place true) item xs ts r.0 us ((one_matches 0 (tests_special (codes ";"))).complete item ts r.0 r.1)
+    (followed_by_found (one 0 (is_special (codes ";"))) (λ x. braced_by found k place true) item xs ts r.0 us ((one_matches 0 (tests_special (codes ";"))).complete item ts r.0 r.1)
     (braced_complete parts found m less k place true xs r.0 us (shorter (length r.0) (length ts) k (one_shrinks 0 IsSemicolon item ts r.0 r.1) l) r.2)))
 braced_complete parts found m less (suc k) place begins (Piece.Part part ∷ xs) ts us l r =
     chosen (braced_ways found place begins (braced_by found k)) 2 _ ts us
     (found_on begins (made_by part_then (followed_by (found 0 place) (λ q. braced_by found k q.1.0 false))) (Piece.Part part ∷ xs, us) ts r.0
     (made_found part_then (followed_by (found 0 place) (λ q. braced_by found k q.1.0 false)) ((part, (r.1.0, r.1.1)), xs) ts us
-    (behind_found (found 0 place) (λ q. braced_by found k q.1.0 false) (part, (r.1.0, r.1.1)) xs ts r.1.2.0 us
+    (followed_by_found (found 0 place) (λ q. braced_by found k q.1.0 false) (part, (r.1.0, r.1.1)) xs ts r.1.2.0 us
     ((m 0 place).complete (part, (r.1.0, r.1.1)) ts r.1.2.0 r.1.2.1)
     (braced_complete parts found m less k r.1.0 false xs r.1.2.0 us (shorter (length r.1.2.0) (length ts) k (less 0 place r.1.0 part r.1.1 ts r.1.2.0 r.1.2.1) l) r.1.2.2))))
 

@@ -39,7 +39,7 @@ use Rattle.hr_grammar_cases.specs.Readings as reading
 use Rattle.hr_grammar_cases.specs.Declarations.{type_head_reading, construction_reading, new_construction_reading, arguments_reading, left_head_reading, closed_reading, left_side_reading, guarded_reading, guards_reading, plain_reading, body_reading, right_side_reading, decl_reading, decl_over, alt_over}
 use Rattle.hr_grammar_finder_laws.specs.Ways.{Among, Way, ◌▶◌, made_by, one, inside}
 use Rattle.hr_grammar_finder_laws.specs.Declarations.{type_head_of, type_heads, construction_ways, constructions, has_one_type, new_constructions, arguments, left_head_ways, left_heads, closed_of, closings, left_side_of, left_sides, guarded_of, guarded, last_guarded, guarded_then, guards_by, guards, body_ways, bodies, RightSide, without_where, with_where, right_side_ways, right_sides, decl_ways, decl_layers, decl_found, alt_of, alt_found}
-use Rattle.hr_grammar_finder_laws.proofs.Ways.{among_left, among_right, Sound, Matches, Tests, Production, is_sound, either_sound, made_sound, made_found, behind_sound, behind_found, any_sound, chosen, on_sound, produced, produced_on, sound_production, made_matches, one_matches, then_matches, passing_matches, maybe_matches, inside_matches, so_matches, so_given, same_matches, with_ending}
+use Rattle.hr_grammar_finder_laws.proofs.Ways.{among_left, among_right, Sound, Matches, Tests, Production, is_sound, either_sound, made_sound, made_found, followed_by_sound, followed_by_found, any_sound, chosen, on_sound, produced, produced_on, sound_production, made_matches, one_matches, then_matches, passing_matches, maybe_matches, inside_matches, so_matches, so_given, same_matches, with_ending}
 use Rattle.hr_grammar_finder_laws.proofs.Tests.{tests_of, tests_word, tests_reserved, tests_special, tests_digit, tests_one, tests_both, tests_at}
 use Rattle.hr_grammar_finder_laws.proofs.Lists.{Shrinks, in_turn_matches, separated_matches, shorter, none_left, all_fit}
 use Rattle.hr_grammar_finder_laws.proofs.Names.{one_shrinks, variable_shrinks, operator_shrinks, constructor_shrinks, variables_match, own_constructors_match, own_variable_operators_match, own_constructor_operators_match, own_operators_match}
@@ -189,7 +189,7 @@ guards_sound b n {IsMark} {is_mark} t (suc k) =
     (made_sound guarded_then (record {
       sound = λ p ts us h.
           guards_so b n IsMark p.0 p.1.0 p.1.1 ts us
-          ((behind_sound {R = λ x. reading.inside (guarded_reading b.read n IsMark x)} {Q = λ x (p : List (Guarded Exp) × Ending). guards_reading b.read n IsMark p.0 p.1}
+          ((followed_by_sound {R = λ x. reading.inside (guarded_reading b.read n IsMark x)} {Q = λ x (p : List (Guarded Exp) × Ending). guards_reading b.read n IsMark p.0 p.1}
           (is_sound (inside_matches (guarded_match b n t))) (λ x. guards_sound b n t k)).sound p ts us h);
     }))
 
@@ -204,7 +204,7 @@ guards_complete b n {IsMark} {is_mark} t (suc k) (x ∷ []) ending ts us l r =
 guards_complete b n {IsMark} {is_mark} t (suc k) (x ∷ (y ∷ xs)) ending ts us l r =
     among_right _ (made_by last_guarded (guarded b.found n is_mark) ts) (made_by guarded_then (inside (guarded b.found n is_mark) ▶ guards_by b.found n is_mark k) ts)
     (made_found guarded_then (inside (guarded b.found n is_mark) ▶ guards_by b.found n is_mark k) (x, (y ∷ xs, ending)) ts us
-    (behind_found (inside (guarded b.found n is_mark)) (λ z. guards_by b.found n is_mark k) x (y ∷ xs, ending) ts r.0 us ((inside_matches (guarded_match b n t)).complete x ts r.0 r.1)
+    (followed_by_found (inside (guarded b.found n is_mark)) (λ z. guards_by b.found n is_mark k) x (y ∷ xs, ending) ts r.0 us ((inside_matches (guarded_match b n t)).complete x ts r.0 r.1)
     (guards_complete b n t k (y ∷ xs) ending r.0 us (shorter (length r.0) (length ts) k (guarded_takes b n IsMark x r.1.0 ts r.0 r.1.1) l) r.2)))
 
 guards_match : (b : Level) (n : ℕ) {IsMark : Item → Type 0} {is_mark : Item → Bool} → Tests IsMark is_mark

@@ -30,7 +30,7 @@ use Rattle.hr_grammar_finder_laws.specs.Tests.{is_minus}
 use Rattle.hr_grammar_finder_laws.specs.Names.{operators}
 use Rattle.hr_grammar_finder_laws.specs.Expressions.{are_allowed, last_alone, operand_then, operands_by, exp_operands_found, qualifier_ways, qualifier_layers, qualifier_found, atom_ways, atom_layers, exp_ways, exp_layers, exp_found}
 use Rattle.hr_grammar_finder_laws.specs.Expressions as found
-use Rattle.hr_grammar_finder_laws.proofs.Ways.{among_left, among_right, Sound, Matches, Production, is_sound, either_sound, made_sound, made_found, behind_sound, behind_found, any_sound, chosen, on_sound, found_on, produced, produced_on, sound_production, made_matches, one_matches, then_matches, passing_matches, maybe_matches, inside_matches, so_matches, so_given, same_matches, with_ending}
+use Rattle.hr_grammar_finder_laws.proofs.Ways.{among_left, among_right, Sound, Matches, Production, is_sound, either_sound, made_sound, made_found, followed_by_sound, followed_by_found, any_sound, chosen, on_sound, found_on, produced, produced_on, sound_production, made_matches, one_matches, then_matches, passing_matches, maybe_matches, inside_matches, so_matches, so_given, same_matches, with_ending}
 use Rattle.hr_grammar_finder_laws.proofs.Tests.{tests_word, tests_reserved, tests_special, tests_literal, tests_minus, tests_no_minus, tests_one, tests_has_two, tests_parts, tests_sequence, tests_at}
 use Rattle.hr_grammar_finder_laws.proofs.Lists.{Shrinks, in_turn_matches, separated_matches, all_fit, there_shrinks}
 use Rattle.hr_grammar_finder_laws.proofs.Names.{one_shrinks, operator_shrinks, named_variables_match, constructors_match, operators_match}
@@ -71,12 +71,12 @@ operands_sound b n free last (suc k) =
     (made_sound operand_then (record {
       sound = λ p ts us h.
           more_operands b n free last p.0 p.1.0 p.1.1.0 p.1.1.1.0 p.1.1.1.1 ts us
-          ((behind_sound {R = reading.maybe (reading.one n IsMinus)}
+          ((followed_by_sound {R = reading.maybe (reading.one n IsMinus)}
           {Q = λ x (p : Exp × (Operator × (List (Operand Exp) × Ending))). reading.inside (b.read.exp n free ExpPlace.Operand p.0) ▷ (spelled n IsOperator operator_items p.1.0 ▷ exp_operands b.read n free last p.1.1.0 p.1.1.1)}
           (is_sound (minus_matches n))
-          (λ x. behind_sound {R = λ y. reading.inside (b.read.exp n free ExpPlace.Operand y)} {Q = λ y (p : Operator × (List (Operand Exp) × Ending)). spelled n IsOperator operator_items p.0 ▷ exp_operands b.read n free last p.1.0 p.1.1}
+          (λ x. followed_by_sound {R = λ y. reading.inside (b.read.exp n free ExpPlace.Operand y)} {Q = λ y (p : Operator × (List (Operand Exp) × Ending)). spelled n IsOperator operator_items p.0 ▷ exp_operands b.read n free last p.1.0 p.1.1}
           (is_sound (placed_matches b n free ExpPlace.Operand))
-          (λ y. behind_sound {R = spelled n IsOperator operator_items} {Q = λ z (p : List (Operand Exp) × Ending). exp_operands b.read n free last p.0 p.1} (is_sound (operators_match n)) (λ z. operands_sound b n free last k)))).sound p ts us h);
+          (λ y. followed_by_sound {R = spelled n IsOperator operator_items} {Q = λ z (p : List (Operand Exp) × Ending). exp_operands b.read n free last p.0 p.1} (is_sound (operators_match n)) (λ z. operands_sound b n free last k)))).sound p ts us h);
     }))
 
 last_found : (b : Level) (n : ℕ) (free : Colons) (last : ExpPlace) (k : ℕ) (operand : Operand Exp) (ending : Ending) (ts us : List Placed) → operand.operator ≡ None
@@ -96,9 +96,9 @@ more_found b n free last k minus part None rest ending ts vs ws os us m r t h = 
 more_found b n free last k minus part (Some operator) rest ending ts vs ws os us m r t h =
     among_right _ (made_by last_alone (maybe (one n is_minus) ▶ b.found.exp n free last) ts) (made_by operand_then (next_finder b n free last k) ts)
     (made_found operand_then (next_finder b n free last k) (minus, (part, (operator, (rest, ending)))) ts us
-    (behind_found (maybe (one n is_minus)) (λ x. inside (b.found.exp n free ExpPlace.Operand) ▶ operators n ▶ operands_by b.found n free last k) minus (part, (operator, (rest, ending))) ts vs us ((minus_matches n).complete minus ts vs m)
-    (behind_found (inside (b.found.exp n free ExpPlace.Operand)) (λ x. operators n ▶ operands_by b.found n free last k) part (operator, (rest, ending)) vs ws us ((placed_matches b n free ExpPlace.Operand).complete part vs ws r)
-    (behind_found (operators n) (λ x. operands_by b.found n free last k) operator (rest, ending) ws os us ((operators_match n).complete operator ws os t) h))))
+    (followed_by_found (maybe (one n is_minus)) (λ x. inside (b.found.exp n free ExpPlace.Operand) ▶ operators n ▶ operands_by b.found n free last k) minus (part, (operator, (rest, ending))) ts vs us ((minus_matches n).complete minus ts vs m)
+    (followed_by_found (inside (b.found.exp n free ExpPlace.Operand)) (λ x. operators n ▶ operands_by b.found n free last k) part (operator, (rest, ending)) vs ws us ((placed_matches b n free ExpPlace.Operand).complete part vs ws r)
+    (followed_by_found (operators n) (λ x. operands_by b.found n free last k) operator (rest, ending) ws os us ((operators_match n).complete operator ws os t) h))))
 
 thrice_shorter : (a b c d k : ℕ) → a < b → b < c → c ≤ d → d ≤ suc k → a ≤ k
 thrice_shorter a b c d k l m o p = omega arith

@@ -6,7 +6,7 @@ use Rattle.hr_tree.specs.declared.lists.Listed.{Listed}
 use Rattle.hr_grammar_cases.specs.Readings.{Reading, never, ◌▷◌}
 use Rattle.hr_grammar_cases.specs.Readings as reading
 use Rattle.hr_grammar_finder_laws.specs.Ways.{Among, Way, Finder, made_by, ◌▶◌, in_turn_by, in_turn, last_listed, listed_then, separated_by, separated}
-use Rattle.hr_grammar_finder_laws.proofs.Ways.{among_left, among_right, Sound, Matches, is_sound, gives_sound, either_sound, made_sound, made_found, behind_sound, behind_found}
+use Rattle.hr_grammar_finder_laws.proofs.Ways.{among_left, among_right, Sound, Matches, is_sound, gives_sound, either_sound, made_sound, made_found, followed_by_sound, followed_by_found}
 
 -- each takes a lexeme or more
 abbrev pub Shrinks : {T : Type 0} → (T → Reading) → Type 0
@@ -23,12 +23,12 @@ all_fit n = omega arith
 
 cons_found : {T : Type 0} (f : Finder T) (g : Finder (List T)) (x : T) (xs : List T) (ts vs us : List Placed)
     → Among {T = Way T} (x, vs) (f ts) → Among {T = Way (List T)} (xs, us) (g vs) → Among {T = Way (List T)} (x ∷ xs, us) (made_by (λ p. p.0 ∷ p.1) (f ▶ g) ts)
-cons_found {T} f g x xs ts vs us h k = made_found (λ (p : T × List T). p.0 ∷ p.1) (f ▶ g) (x, xs) ts us (behind_found f (λ y. g) x xs ts vs us h k)
+cons_found {T} f g x xs ts vs us h k = made_found (λ (p : T × List T). p.0 ∷ p.1) (f ▶ g) (x, xs) ts us (followed_by_found f (λ y. g) x xs ts vs us h k)
 
 in_turn_sound : {T : Type 0} {R : T → Reading} {f : Finder T} → Sound R f → (k : ℕ) → Sound (reading.in_turn R) (in_turn_by f k)
 in_turn_sound {T} {R} {f} m zero = gives_sound (λ ts. refl)
 in_turn_sound {T} {R} {f} m (suc k) =
-    either_sound (gives_sound (λ ts. refl)) (made_sound (λ (p : T × List T). p.0 ∷ p.1) (behind_sound {R = R} {Q = λ x. reading.in_turn R} m (λ x. in_turn_sound {R = R} m k)))
+    either_sound (gives_sound (λ ts. refl)) (made_sound (λ (p : T × List T). p.0 ∷ p.1) (followed_by_sound {R = R} {Q = λ x. reading.in_turn R} m (λ x. in_turn_sound {R = R} m k)))
 
 in_turn_complete : {T : Type 0} {R : T → Reading} {f : Finder T} → Matches R f → Shrinks R → (k : ℕ) (xs : List T) (ts us : List Placed) → length ts ≤ k
     → reading.in_turn R xs ts us → Among {T = Way (List T)} (xs, us) (in_turn_by f k ts)
@@ -62,8 +62,8 @@ separated_sound {T} {Q} {R} {s} {f} q m (suc k) =
     (made_sound listed_then (record {
       sound = λ p ts us h.
           listed_so Q R p.0 p.1.0 p.1.1 ts us
-          ((behind_sound {R = R} {Q = λ x p. Q p.0 ▷ SomeSeparated Q R p.1} m
-          (λ x. behind_sound {R = Q} {Q = λ y. SomeSeparated Q R} q (λ y. separated_sound {Q = Q} {R = R} q m k))).sound p ts us h);
+          ((followed_by_sound {R = R} {Q = λ x p. Q p.0 ▷ SomeSeparated Q R p.1} m
+          (λ x. followed_by_sound {R = Q} {Q = λ y. SomeSeparated Q R} q (λ y. separated_sound {Q = Q} {R = R} q m k))).sound p ts us h);
     }))
 
 last_found : {T : Type 0} (f : Finder T) (listed : Listed T) (ts us : List Placed) → listed.separator ≡ None → Among {T = Way T} (listed.part, us) (f ts)
@@ -77,7 +77,7 @@ more_found : {T : Type 0} {Q : Item → Reading} {R : T → Reading} {s : Finder
 more_found rest g q m part None ts vs ws us r t h = elim t [ ]
 more_found {T} {Q} {R} {s} {f} rest g q m part (Some item) ts vs ws us r t h =
     made_found listed_then (f ▶ s ▶ g) (part, (item, rest)) ts us
-    (behind_found f (λ x. s ▶ g) part (item, rest) ts vs us (m.complete part ts vs r) (behind_found s (λ x. g) item rest vs ws us (q.complete item vs ws t) h))
+    (followed_by_found f (λ x. s ▶ g) part (item, rest) ts vs us (m.complete part ts vs r) (followed_by_found s (λ x. g) item rest vs ws us (q.complete item vs ws t) h))
 
 pub there_shrinks : {T : Type 0} (R : T → Reading) → Shrinks R → (x : Option T) (ts us : List Placed) → reading.there R x ts us → length us < length ts
 there_shrinks R less None ts us t = elim t [ ]

@@ -23,7 +23,7 @@ use Rattle.hr_grammar_cases.specs.Patterns.{pat_operands, pat_reading, pat_over}
 use Rattle.hr_grammar_finder_laws.specs.Ways.{Among, Way, ◌▶◌, made_by}
 use Rattle.hr_grammar_finder_laws.specs.Names.{constructor_operators}
 use Rattle.hr_grammar_finder_laws.specs.Patterns.{last_operand, operand_then, operands_by, pat_operands_found, pat_ways, pat_layers, pat_found}
-use Rattle.hr_grammar_finder_laws.proofs.Ways.{among_left, among_right, Sound, Matches, Production, is_sound, either_sound, made_sound, made_found, behind_sound, behind_found, any_sound, chosen, on_sound, produced, produced_on, sound_production, made_matches, one_matches, then_matches, passing_matches, so_matches, so_given, same_matches}
+use Rattle.hr_grammar_finder_laws.proofs.Ways.{among_left, among_right, Sound, Matches, Production, is_sound, either_sound, made_sound, made_found, followed_by_sound, followed_by_found, any_sound, chosen, on_sound, produced, produced_on, sound_production, made_matches, one_matches, then_matches, passing_matches, so_matches, so_given, same_matches}
 use Rattle.hr_grammar_finder_laws.proofs.Tests.{tests_of, tests_word, tests_reserved, tests_special, tests_literal, tests_minus, tests_one, tests_has_two, tests_parts, tests_at}
 use Rattle.hr_grammar_finder_laws.proofs.Lists.{in_turn_matches, separated_matches, none_left, all_fit, twice_shorter, there_shrinks}
 use Rattle.hr_grammar_finder_laws.proofs.Names.{one_shrinks, operator_shrinks, variables_match, constructors_match, constructor_operators_match}
@@ -43,8 +43,8 @@ operands_sound b n (suc k) =
     (made_sound operand_then (record {
       sound = λ p ts us h.
           more_operands b n p.0 p.1.0 p.1.1 ts us
-          ((behind_sound {R = b.read.pat n PatPlace.Operand} {Q = λ x p. spelled n IsConstructorOperator operator_items p.0 ▷ pat_operands b.read n p.1} (is_sound (b.each.pat n PatPlace.Operand))
-          (λ x. behind_sound {R = spelled n IsConstructorOperator operator_items} {Q = λ y. pat_operands b.read n} (is_sound (constructor_operators_match n)) (λ y. operands_sound b n k))).sound p ts us h);
+          ((followed_by_sound {R = b.read.pat n PatPlace.Operand} {Q = λ x p. spelled n IsConstructorOperator operator_items p.0 ▷ pat_operands b.read n p.1} (is_sound (b.each.pat n PatPlace.Operand))
+          (λ x. followed_by_sound {R = spelled n IsConstructorOperator operator_items} {Q = λ y. pat_operands b.read n} (is_sound (constructor_operators_match n)) (λ y. operands_sound b n k))).sound p ts us h);
     }))
 
 last_found : (b : Level) (n k : ℕ) (operand : Operand Pat) (ts us : List Placed) → operand.minus ≡ None → operand.operator ≡ None → b.read.pat n PatPlace.Operand operand.part ts us
@@ -64,8 +64,8 @@ more_found b n k None part None rest ts vs ws us e r t h = elim t [ ]
 more_found b n k None part (Some operator) rest ts vs ws us e r t h =
     among_right _ (made_by last_operand (b.found.pat n PatPlace.Operand) ts) _
     (made_found operand_then (b.found.pat n PatPlace.Operand ▶ constructor_operators n ▶ operands_by b.found n k) (part, (operator, rest)) ts us
-    (behind_found (b.found.pat n PatPlace.Operand) (λ x. constructor_operators n ▶ operands_by b.found n k) part (operator, rest) ts vs us ((b.each.pat n PatPlace.Operand).complete part ts vs r)
-    (behind_found (constructor_operators n) (λ x. operands_by b.found n k) operator rest vs ws us ((constructor_operators_match n).complete operator vs ws t) h)))
+    (followed_by_found (b.found.pat n PatPlace.Operand) (λ x. constructor_operators n ▶ operands_by b.found n k) part (operator, rest) ts vs us ((b.each.pat n PatPlace.Operand).complete part ts vs r)
+    (followed_by_found (constructor_operators n) (λ x. operands_by b.found n k) operator rest vs ws us ((constructor_operators_match n).complete operator vs ws t) h)))
 
 operands_complete : (b : Level) (n k : ℕ) (operands : List (Operand Pat)) (ts us : List Placed) → length ts ≤ k → pat_operands b.read n operands ts us
     → Among {T = Way (List (Operand Pat))} (operands, us) (operands_by b.found n k ts)

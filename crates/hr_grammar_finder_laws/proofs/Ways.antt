@@ -153,30 +153,30 @@ passing_matches {T} {Is} {R} {test} {f} t m = record {
 moved : {A : Type 0} (P : A → Type 0) (a b : A) → b ≡ a → P a → P b
 moved P a b e p = subst P (sym e) p
 
-pub behind_sound : {S T : Type 0} {R : S → Reading} {Q : S → T → Reading} {f : Finder S} {g : S → Finder T}
+pub followed_by_sound : {S T : Type 0} {R : S → Reading} {Q : S → T → Reading} {f : Finder S} {g : S → Finder T}
     → Sound R f → ((x : S) → Sound (Q x) (g x)) → Sound (λ (p : S × T). R p.0 ▷ Q p.0 p.1) (followed_by f g)
-behind_sound {S} {T} {R} {Q} {f} {g} m n = record {
+followed_by_sound {S} {T} {R} {Q} {f} {g} m n = record {
   sound = λ x ts us h.
       let k = among_flat (λ (way : Way S). map (λ (next : Way T). ((way.0, next.0), next.1)) (g way.0 way.1)) (f ts) (x, us) h in
       let j = among_map (λ (next : Way T). ((k.0.0, next.0), next.1)) (g k.0.0 k.0.1) (x, us) k.2 in
       moved (λ (w : Way (S × T)). (R w.0.0 ▷ Q w.0.0 w.0.1) ts w.1) ((k.0.0, j.0.0), j.0.1) (x, us) j.1 (k.0.1, m.sound k.0.0 ts k.0.1 k.1, (n k.0.0).sound j.0.0 k.0.1 j.0.1 j.2);
 }
 
-pub behind_found : {S T : Type 0} (f : Finder S) (g : S → Finder T) (x : S) (y : T) (ts vs us : List Placed)
+pub followed_by_found : {S T : Type 0} (f : Finder S) (g : S → Finder T) (x : S) (y : T) (ts vs us : List Placed)
     → Among {T = Way S} (x, vs) (f ts) → Among {T = Way T} (y, us) (g x vs) → Among {T = Way (S × T)} ((x, y), us) (followed_by f g ts)
-behind_found {S} {T} f g x y ts vs us h k =
+followed_by_found {S} {T} f g x y ts vs us h k =
     flat_among (λ (way : Way S). map (λ (next : Way T). ((way.0, next.0), next.1)) (g way.0 way.1)) (f ts) (x, vs) ((x, y), us) h
     (map_among (λ (next : Way T). ((x, next.0), next.1)) (g x vs) (y, us) k)
 
-pub behind_matches : {S T : Type 0} {R : S → Reading} {Q : S → T → Reading} {f : Finder S} {g : S → Finder T}
+pub followed_by_matches : {S T : Type 0} {R : S → Reading} {Q : S → T → Reading} {f : Finder S} {g : S → Finder T}
     → Matches R f → ((x : S) → Matches (Q x) (g x)) → Matches (λ (p : S × T). R p.0 ▷ Q p.0 p.1) (followed_by f g)
-behind_matches {S} {T} {R} {Q} {f} {g} m n = record {
-  sound = (behind_sound {R = R} {Q = Q} (is_sound m) (λ x. is_sound (n x))).sound;
-  complete = λ x ts us r. behind_found f g x.0 x.1 ts r.0 us (m.complete x.0 ts r.0 r.1) ((n x.0).complete x.1 r.0 us r.2);
+followed_by_matches {S} {T} {R} {Q} {f} {g} m n = record {
+  sound = (followed_by_sound {R = R} {Q = Q} (is_sound m) (λ x. is_sound (n x))).sound;
+  complete = λ x ts us r. followed_by_found f g x.0 x.1 ts r.0 us (m.complete x.0 ts r.0 r.1) ((n x.0).complete x.1 r.0 us r.2);
 }
 
 pub then_matches : {S T : Type 0} {R : S → Reading} {Q : T → Reading} {f : Finder S} {g : Finder T} → Matches R f → Matches Q g → Matches (λ (p : S × T). R p.0 ▷ Q p.1) (f ▶ g)
-then_matches m n = behind_matches m (λ x. n)
+then_matches m n = followed_by_matches m (λ x. n)
 
 pub one_matches : (n : ℕ) {Is : Item → Type 0} {is : Item → Bool} → Tests Is is → Matches (reading.one n Is) (one n is)
 one_matches n {Is} {is} t = record { sound = found; complete = read }

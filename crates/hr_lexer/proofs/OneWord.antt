@@ -23,7 +23,7 @@ use Rattle.ucd_category.specs.GeneralCategoryRows.{general_category_rows}
 use Rattle.ucd_table.specs.Rows.{value_in}
 use Rattle.hr_lexer.proofs.Exactly.{lexeme_text}
 use Rattle.hr_lexer.proofs.Marks.{begins_mark}
-use Rattle.hr_lexer.specs.Words.{HasItems, IsVarId, IsWord, Tells}
+use Rattle.hr_lexer.specs.Words.{HasItems, IsVarId, IsOneVarId, Tells}
 
 -- a list of no length
 pub empty : (xs : List ℕ) → length xs ≡ 0 → xs ≡ []
@@ -125,13 +125,13 @@ varid_if true x e = e
 varid_if false x e = absurd (true≢false (sym e))
 
 -- so one may begin where one stands
-spelled : (text after : List ℕ) → class_of text after ≡ Some Class.VarId → is_varid (spelled_class (chars text) (chars after)) ≡ true
+varid_spelled : (text after : List ℕ) → class_of text after ≡ Some Class.VarId → is_varid (spelled_class (chars text) (chars after)) ≡ true
 unfolding class_of
-spelled text after e = varid_if (are_utf8 text after) (spelled_class (chars text) (chars after)) (ap is_varid e)
+varid_spelled text after e = varid_if (are_utf8 text after) (spelled_class (chars text) (chars after)) (ap is_varid e)
 
 begins : (text : List ℕ) → IsVarId text → bars text ≡ false
 unfolding bars
-begins text e = free (chars text) (chars []) (spelled text [] e)
+begins text e = free (chars text) (chars []) (varid_spelled text [] e)
 
 -- and no byte order mark
 no_letter : kind_of 0xFEFF ≡ Kind.Other
@@ -143,7 +143,7 @@ unmarked_by text e false m = refl
 unmarked_by text e true m =
     let valid : IsUtf8 text = lexeme_text text [] Class.VarId e in
     let all : chars text ≡ 0xFEFF ∷ chars (drop 3 text) = chars_past_char text (drop 3 text) 0xFEFF valid (begins_mark text m) in
-    let is : is_varid (spelled_class (0xFEFF ∷ chars (drop 3 text)) (chars [])) ≡ true = ap (λ x. is_varid (spelled_class x (chars []))) (sym all) ∙ spelled text [] e in
+    let is : is_varid (spelled_class (0xFEFF ∷ chars (drop 3 text)) (chars [])) ≡ true = ap (λ x. is_varid (spelled_class x (chars []))) (sym all) ∙ varid_spelled text [] e in
     absurd (true≢false (sym is ∙ ap (λ x. is_varid (spelled_class_by x 0xFEFF (chars (drop 3 text)) (chars []))) no_letter))
 
 unmarked : (text : List ℕ) → IsVarId text → mark_len text ≡ 0
@@ -180,15 +180,15 @@ word_items text e =
 
 -- the answer of a test on its items
 module _ (text : List ℕ) where
-  tells_by : (b : Bool) (items : List Item) (tail : List ℕ) → LexesText text (record { list = items; tail = tail }) → Tells b (IsWord items text) → Tells b (IsVarId text)
+  tells_by : (b : Bool) (items : List Item) (tail : List ℕ) → LexesText text (record { list = items; tail = tail }) → Tells b (IsOneVarId items text) → Tells b (IsVarId text)
   tells_by true [] tail lexes is = absurd is
   tells_by true (only ∷ []) tail lexes is = is_word_is text only tail lexes is
   tells_by true (only ∷ other ∷ items) tail lexes is = absurd is
   tells_by false items tail lexes is = λ e.
       let same : record { list = items; tail = tail } ≡ record { list = word text ∷ []; tail = [] } = one_reading_lem text (record { list = items; tail = tail }) (record { list = word text ∷ []; tail = [] }) lexes (word_items text e) in
-      is (subst (λ x. IsWord x text) (ap (λ x. x.list) (sym same)) (refl, refl))
+      is (subst (λ x. IsOneVarId x text) (ap (λ x. x.list) (sym same)) (refl, refl))
 
-  pub tells_word : (b : Bool) (items : Items) → HasItems text (Some items) → Tells b (IsWord items.list text) → Tells b (IsVarId text)
+  pub tells_word : (b : Bool) (items : Items) → HasItems text (Some items) → Tells b (IsOneVarId items.list text) → Tells b (IsVarId text)
   tells_word b items has is = tells_by b items.list items.tail has is
 
   pub no_word : HasItems text None → ¬ (IsVarId text)

@@ -13,10 +13,10 @@ refusal_number LexError.TooLong = Some 5
 refusal_number (LexError.Memory error) = None
 
 -- and its place in bytes from 0, where it has one
-abbrev pub place_of : LexError → Option ℕ
-place_of (LexError.BadUtf8 place) = Some place
-place_of (LexError.BadLexeme place) = Some place
-place_of (LexError.OpenComment place) = Some place
-place_of (LexError.LiteralTooWide place) = Some place
-place_of LexError.TooLong = None
-place_of (LexError.Memory error) = None
+abbrev pub refusal_place : LexError → Option ℕ
+refusal_place (LexError.BadUtf8 place) = Some place
+refusal_place (LexError.BadLexeme place) = Some place
+refusal_place (LexError.OpenComment place) = Some place
+refusal_place (LexError.LiteralTooWide place) = Some place
+refusal_place LexError.TooLong = None
+refusal_place (LexError.Memory error) = None

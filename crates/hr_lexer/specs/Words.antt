@@ -30,9 +30,9 @@ HasItems text (Some items) = LexesText text items
 HasItems text None = (items : Items) → ¬ (LexesText text items)
 
 -- the only lexeme is a variable identifier of this text
-abbrev pub IsWord : List Item → List ℕ → Type 0
-IsWord (only ∷ []) text = (only.lexeme.class ≡ Class.VarId) × (only.lexeme.text ≡ text)
-IsWord _ text = ⊥
+abbrev pub IsOneVarId : List Item → List ℕ → Type 0
+IsOneVarId (only ∷ []) text = (only.lexeme.class ≡ Class.VarId) × (only.lexeme.text ≡ text)
+IsOneVarId _ text = ⊥
 
 -- the lexemes are two of these texts
 abbrev pub AreLexemes : List Item → List ℕ → List ℕ → Type 0

@@ -1,7 +1,7 @@
 //! Texts that are one lexeme, and lexemes that stand side by side.
 ghost use Rattle.std.specs.Prelude.{◌≡◌, IfOk};
 ghost use Rattle.hr_base.specs.declared.lexeme.Class.{Class};
-ghost use Rattle.hr_lexer.specs.Words.{AreApart, AreLexemes, HasItems, IsVarId, IsWord, Tells};
+ghost use Rattle.hr_lexer.specs.Words.{AreApart, AreLexemes, HasItems, IsVarId, IsOneVarId, Tells};
 
 use crate::LexError;
 use crate::lexing::items;
@@ -46,7 +46,7 @@ fn items_if_any(alloc: Global, text: &[u8]) -> Result<Option<Items>, AllocError>
 
 /// Whether the items are one variable identifier of this text.
 fn is_word(items: &[Item], text: &[u8]) -> bool
-    ensures { Tells result (IsWord items.now text.now) }
+    ensures { Tells result (IsOneVarId items.now text.now) }
 {
     match items {
         [only] => is_varid_of(&only.lexeme, text),

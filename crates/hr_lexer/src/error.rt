@@ -1,5 +1,5 @@
 ghost use Rattle.std.specs.Prelude.{◌≡◌};
-ghost use Rattle.hr_lexer.specs.Shown.{place_of, refusal_number};
+ghost use Rattle.hr_lexer.specs.Shown.{refusal_place, refusal_number};
 
 use std::alloc::AllocError;
 use thiserror::Error;
@@ -44,7 +44,7 @@ impl LexError {
 
     /// Its place; none where the whole text is refused, and for want of memory.
     pub fn place(&self) -> Option<usize>
-        ensures { result ≡ place_of self.now }
+        ensures { result ≡ refusal_place self.now }
     {
         match self {
             LexError::BadUtf8 { place } => Some(*place),

@@ -17,7 +17,7 @@ use Rattle.hr_plain.specs.declared.expressions.Body.{Body}
 use Rattle.hr_plain.specs.declared.expressions.Outer.{Outer}
 use Rattle.hr_plain.specs.Form.{shape_of, greatest_height, is_integer, is_integer_class, is_mark, is_plain_variable, is_reserved_class}
 use Rattle.hr_plain.specs.Scoping.{is_variable_class}
-use Rattle.hr_plain.specs.Reading.{joined, split_last, with_atom, opened, grouped, closed_in, closed, body_with, joined_outside, body_end}
+use Rattle.hr_plain.specs.Reading.{joined, split_last, with_atom, opened, grouped, closed_in, group_closed, body_with, joined_outside, body_end}
 use Rattle.hr_plain.proofs.Basics.{and_false, both_left, both_right, both, if_true, if_false, all_more, all_but_last, all_last, flat_more, split_more, split_is}
 use Rattle.hr_plain.proofs.Nodes.{by_parts, shape_variable, shape_integer, shape_group, shape_apply, height_group, height_apply}
 
@@ -150,7 +150,7 @@ body_longer body longer item is e =
     by (is_plain_variable item) (is_integer item) (is_mark 40 item) (is_mark 41 item) refl refl refl refl e where
       by : (v i l r : Bool) → is_plain_variable item ≡ v → is_integer item ≡ i → is_mark 40 item ≡ l → is_mark 41 item ≡ r
           → (if v then Some (with_atom body (Variable item)) else (if i then Some (with_atom body (Integer item))
-          else (if l then opened body item else (if r then closed body item else None)))) ≡ Some longer → Longer body longer item
+          else (if l then opened body item else (if r then group_closed body item else None)))) ≡ Some longer → Longer body longer item
       by true i l r hv hi hl hr h =
           let same : with_atom body (Variable item) ≡ longer = cc in
           subst (λ b. Longer body b item) same (atom_read body (Variable item) item is (variable_atom item hv) (yield_variable item))
@@ -275,7 +275,7 @@ with_left : (body : Body) (item : Item) → is_mark 40 item ≡ true → body_wi
 with_left body item h =
     if_false (is_plain_variable item) _ _ (mark_no_variable 40 item h) ∙ if_false (is_integer item) _ _ (mark_no_integer 40 item h) ∙ if_true (is_mark 40 item) _ _ h
 
-with_right : (body : Body) (item : Item) → is_mark 41 item ≡ true → body_with body item ≡ closed body item
+with_right : (body : Body) (item : Item) → is_mark 41 item ≡ true → body_with body item ≡ group_closed body item
 with_right body item h =
     if_false (is_plain_variable item) _ _ (mark_no_variable 41 item h) ∙ if_false (is_integer item) _ _ (mark_no_integer 41 item h)
     ∙ if_false (is_mark 40 item) _ _ (right_no_left item h) ∙ if_true (is_mark 41 item) _ _ h
@@ -288,8 +288,8 @@ pub record IsRead (outer : List Outer) (exp : Exp) : Type 0 where
   pub one : (shape_of exp).is_atom ≡ true → (atoms : List Exp) → body_after (body_of atoms outer) (yield_of exp) ≡ Some (body_of (atoms ++ (exp ∷ [])) outer)
   pub whole : (atoms : List Exp) × ((joined atoms ≡ Some exp) × (body_after (body_of [] outer) (yield_of exp) ≡ Some (body_of atoms outer)))
 
-abbrev pub Reads : Exp → Type 0
-Reads exp = (outer : List Outer) → (shape_of exp).is_form ≡ true → length outer + height_of exp ≤ greatest_height → IsRead outer exp
+abbrev pub IsAlwaysRead : Exp → Type 0
+IsAlwaysRead exp = (outer : List Outer) → (shape_of exp).is_form ≡ true → length outer + height_of exp ≤ greatest_height → IsRead outer exp
 
 -- an atom is read as the one that is there
 one_read : (outer : List Outer) (exp : Exp) → ((atoms : List Exp) → body_after (body_of atoms outer) (yield_of exp) ≡ Some (body_of (atoms ++ (exp ∷ [])) outer)) → IsRead outer exp
@@ -298,13 +298,13 @@ one_read outer exp h = record { one = λ is atoms. h atoms; whole = (exp ∷ [],
 after_one : (body longer : Body) (item : Item) (exp : Exp) → yield_of exp ≡ item ∷ [] → body_with body item ≡ Some longer → body_after body (yield_of exp) ≡ Some longer
 after_one body longer item exp y h = ap (body_after body) y ∙ ap (option_and_then (λ b. body_after b [])) h
 
-variable_read : (item : Item) → Reads (Variable item)
+variable_read : (item : Item) → IsAlwaysRead (Variable item)
 variable_read item outer form fits =
     let is : is_plain_variable item ≡ true = sym (ap (λ s. s.is_form) (shape_variable item)) ∙ form in
     one_read outer (Variable item) (λ atoms.
     after_one (body_of atoms outer) (body_of (atoms ++ Variable item ∷ []) outer) item (Variable item) (yield_variable item) (with_variable (body_of atoms outer) item is))
 
-integer_read : (item : Item) → Reads (Integer item)
+integer_read : (item : Item) → IsAlwaysRead (Integer item)
 integer_read item outer form fits =
     let is : is_integer item ≡ true = sym (ap (λ s. s.is_form) (shape_integer item)) ∙ form in
     one_read outer (Integer item) (λ atoms.
@@ -323,7 +323,7 @@ close_with atoms outer last right inner h j =
     with_right (body_of atoms (outer ++ last ∷ [])) right h ∙ ap (option_and_then (closed_in atoms right)) (split_more outer last)
     ∙ ap (option_map (grouped outer last right)) j
 
-group_read_again : (left : Item) (inner : Exp) (right : Item) → Reads inner → Reads (Group left inner right)
+group_read_again : (left : Item) (inner : Exp) (right : Item) → IsAlwaysRead inner → IsAlwaysRead (Group left inner right)
 group_read_again left inner right reads outer form fits =
     let shape : ((is_mark 40 left && (shape_of inner).is_form) && is_mark 41 right) ≡ true = sym (ap (λ s. s.is_form) (shape_group left inner right)) ∙ form in
     let front : (is_mark 40 left && (shape_of inner).is_form) ≡ true = both_left (is_mark 40 left && (shape_of inner).is_form) (is_mark 41 right) shape in
@@ -348,7 +348,7 @@ first_fits outer m n h = omega arith
 rest_fits : (outer : List Outer) (m n : ℕ) → length outer + (max m n + 1) ≤ greatest_height → length outer + (n + 1) ≤ greatest_height
 rest_fits outer m n h = omega arith
 
-atoms_read : (atoms front : List Exp) (outer : List Outer) → AllByRecursion Reads atoms → are_atoms atoms ≡ true → length outer + (greatest (map height_of atoms) + 1) ≤ greatest_height
+atoms_read : (atoms front : List Exp) (outer : List Outer) → AllByRecursion IsAlwaysRead atoms → are_atoms atoms ≡ true → length outer + (greatest (map height_of atoms) + 1) ≤ greatest_height
     → body_after (body_of front outer) (flat_map yield_of atoms) ≡ Some (body_of (front ++ atoms) outer)
 atoms_read [] front outer reads are fits = ap (λ l. Some (body_of l outer)) (sym (append-nil front))
 atoms_read (atom ∷ atoms) front outer reads are fits =
@@ -366,7 +366,7 @@ joined_many [] e = absurd (true≢false (sym e))
 joined_many (atom ∷ []) e = absurd (true≢false (sym e))
 joined_many (atom ∷ (other ∷ atoms)) e = refl
 
-apply_read : (atoms : List Exp) → AllByRecursion Reads atoms → Reads (Apply atoms)
+apply_read : (atoms : List Exp) → AllByRecursion IsAlwaysRead atoms → IsAlwaysRead (Apply atoms)
 apply_read atoms reads outer form fits =
     let shape : (nat_lt 1 (length (map shape_of atoms)) && list_all (λ s. s.is_form && s.is_atom) (map shape_of atoms)) ≡ true = sym (ap (λ s. s.is_form) (shape_apply atoms)) ∙ form in
     let many_are : nat_lt 1 (length atoms) ≡ true =
@@ -380,5 +380,5 @@ apply_read atoms reads outer form fits =
     }
 
 -- every expression of the form is read
-pub all_read : (exp : Exp) → Reads exp
-all_read = by_parts Reads variable_read integer_read group_read_again apply_read
+pub all_read : (exp : Exp) → IsAlwaysRead exp
+all_read = by_parts IsAlwaysRead variable_read integer_read group_read_again apply_read

@@ -1,7 +1,7 @@
 -- Booleans and lists.
 use Rattle.std.proofs.Common.{◌≡◌, ℕ, ◌+◌, ◌<◌, Bool, true, false, ◌&&◌, if◌then◌else◌, Option, Some, None, List, [], ◌∷◌, ◌++◌, length, drop, get_or, ◌-◌, arith, refl, sym, ap, ◌∙◌, true≢false, append-nil, add-one, drop-cons}
 use Rattle.std.specs.List.{flat_map, last_or, list_all, slice_get}
-use Rattle.hr_plain.specs.Reading.{behind, split_last}
+use Rattle.hr_plain.specs.Reading.{put_before, split_last}
 use Rattle.std.proofs.lemmas.List.Folds.{list_all-append}
 use Rattle.std.proofs.lemmas.Grind.{flat_map-append}
 
@@ -56,24 +56,24 @@ at_place xs place x within is =
 
 pub split_more : {X : Type 0} (xs : List X) (x : X) → split_last (xs ++ x ∷ []) ≡ Some (xs, x)
 split_more [] x = refl
-split_more (y ∷ ys) x = ap (λ o. Some (behind y o)) (split_more ys x)
+split_more (y ∷ ys) x = ap (λ o. Some (put_before y o)) (split_more ys x)
 
 none_split : {X : Type 0} (xs : List X) → split_last xs ≡ None → xs ≡ []
 none_split [] e = refl
 none_split (x ∷ xs) e = absurd (cc)
 
-split_behind : {X : Type 0} (z : X) (zs ys : List X) (x : X) (o : Option (List X × X)) → split_last zs ≡ o → ((ws : List X) (l : X) → split_last zs ≡ Some (ws, l) → zs ≡ ws ++ l ∷ [])
-    → Some (behind z o) ≡ Some (ys, x) → z ∷ zs ≡ ys ++ x ∷ []
-split_behind z zs ys x None is ih e =
+split_before : {X : Type 0} (z : X) (zs ys : List X) (x : X) (o : Option (List X × X)) → split_last zs ≡ o → ((ws : List X) (l : X) → split_last zs ≡ Some (ws, l) → zs ≡ ws ++ l ∷ [])
+    → Some (put_before z o) ≡ Some (ys, x) → z ∷ zs ≡ ys ++ x ∷ []
+split_before z zs ys x None is ih e =
     let p : ◌≡◌ {A = List _ × _} ([], z) (ys, x) = cc in
     ap (λ l. z ∷ l) (none_split zs is) ∙ ap (λ q. q.0 ++ q.1 ∷ []) p
-split_behind z zs ys x (Some (ws, l)) is ih e =
+split_before z zs ys x (Some (ws, l)) is ih e =
     let p : ◌≡◌ {A = List _ × _} (z ∷ ws, l) (ys, x) = cc in
     ap (λ l. z ∷ l) (ih ws l is) ∙ ap (λ q. q.0 ++ q.1 ∷ []) p
 
 pub split_is : {X : Type 0} (xs ys : List X) (x : X) → split_last xs ≡ Some (ys, x) → xs ≡ ys ++ x ∷ []
 split_is [] ys x e = absurd (cc)
-split_is (z ∷ zs) ys x e = split_behind z zs ys x (split_last zs) refl (λ ws l is. split_is zs ws l is) e
+split_is (z ∷ zs) ys x e = split_before z zs ys x (split_last zs) refl (λ ws l is. split_is zs ws l is) e
 
 last_at : {X : Type 0} (o : Option X) (x : X) (xs : List X) → slice_get (x ∷ xs) (length xs) ≡ last_or o (x ∷ xs)
 last_at o x [] = refl

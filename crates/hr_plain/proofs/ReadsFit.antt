@@ -16,8 +16,8 @@ use Rattle.hr_lexer.proofs.Bytes.{fits, none_some, parts_join, scalars_take}
 use Rattle.hr_lexer.proofs.Instances.{readers}
 
 -- these characters are what is read where the others follow, a lexeme of the class
-abbrev pub Reads : Class → List ℕ → List ℕ → Type 0
-Reads class cs after = lexeme_at (cs ++ after) ≡ Some (record { class = class; len = length cs })
+abbrev pub IsTaken : Class → List ℕ → List ℕ → Type 0
+IsTaken class cs after = lexeme_at (cs ++ after) ≡ Some (record { class = class; len = length cs })
 
 -- where bytes are a lexeme, their characters are
 pub record Spelled (class : Class) (text after : List ℕ) : Type 0 where
@@ -29,9 +29,9 @@ some_if : (b : Bool) (x : Option Class) (class : Class) → cond b x None ≡ So
 some_if true x class e = (refl, e)
 some_if false x class e = absurd (none_some e)
 
-pub spelled : (class : Class) (text after : List ℕ) → class_of text after ≡ Some class → Spelled class text after
+pub spelled_in_class : (class : Class) (text after : List ℕ) → class_of text after ≡ Some class → Spelled class text after
 unfolding class_of
-spelled class text after e =
+spelled_in_class class text after e =
     let parts : (are_utf8 text after ≡ true) × (spelled_class (chars text) (chars after) ≡ Some class) = some_if (are_utf8 text after) (spelled_class (chars text) (chars after)) class e in
     record {
       front = IsUtf8-from_is_utf8 text (both_left (is_utf8 text) (is_utf8 after) parts.0);
@@ -56,7 +56,7 @@ scalar_parts : (text after : List ℕ) → IsUtf8 text → IsUtf8 after → scal
 scalar_parts text after u v = ap scalars (sym (chars-append text after u)) ∙ scalars-chars (text ++ after) (IsUtf8-append text after u v)
 
 -- what is read fits
-pub fits_read : (class : Class) (text after : List ℕ) → IsUtf8 text → IsUtf8 after → Reads class (chars text) (chars after) → Fits class_of bars class text after
+pub fits_read : (class : Class) (text after : List ℕ) → IsUtf8 text → IsUtf8 after → IsTaken class (chars text) (chars after) → Fits class_of bars class text after
 fits_read class text after u v e =
     let cs : List ℕ = chars text ++ chars after in
     let n : ℕ = length (chars text) in
@@ -69,9 +69,9 @@ same_taken : (class other : Class) (n m : ℕ) → class ≡ other → n ≡ m �
 same_taken class other n m e f = λ k. record { class = sym e k; len = sym f k }
 
 -- what fits is read
-pub read_fits : (class : Class) (text after : List ℕ) → Fits class_of bars class text after → Reads class (chars text) (chars after)
+pub read_fits : (class : Class) (text after : List ℕ) → Fits class_of bars class text after → IsTaken class (chars text) (chars after)
 read_fits class text after f =
-    let s : Spelled class text after = spelled class text after f.is in
+    let s : Spelled class text after = spelled_in_class class text after f.is in
     let cs : List ℕ = chars text ++ chars after in
     let all : scalars cs ≡ true = scalar_parts text after s.front s.back in
     let join : cs ≡ chars (text ++ after) = sym (chars-append text after s.front) in

@@ -20,7 +20,7 @@ use Rattle.hr_rules.proofs.Lexing.{lexings_join_lem}
 use Rattle.hr_plain.specs.Form.{is_plain_trivia, is_plain_trivia_where}
 use Rattle.hr_plain.proofs.ReadsAlone.{IsQuiet, Quiet}
 use Rattle.hr_plain.proofs.ReadsAlone.Quiet.{nothing, something}
-use Rattle.hr_plain.proofs.ReadsFit.{Spelled, spelled}
+use Rattle.hr_plain.proofs.ReadsFit.{Spelled, spelled_in_class}
 use Rattle.hr_plain.proofs.ReadsKinds.{Word, word_of, Number, number_of}
 use Rattle.hr_plain.proofs.ReadsNames.{word_begins, number_begins, byte_first, left_byte, right_byte, equals_byte}
 use Rattle.hr_plain.proofs.ReadsTrivia.{trivia_utf8, quiet_trivia}
@@ -67,7 +67,7 @@ lexed_utf8 [] tail l = trivia_utf8 l
 lexed_utf8 (item ∷ items) tail l =
     let behind : List ℕ = joined items tail in
     IsUtf8-append item.trivia (item.lexeme.text ++ behind) (trivia_utf8 l.0)
-    (IsUtf8-append item.lexeme.text behind (spelled item.lexeme.class item.lexeme.text behind l.1.0.is).front (lexed_utf8 items tail l.1.1))
+    (IsUtf8-append item.lexeme.text behind (spelled_in_class item.lexeme.class item.lexeme.text behind l.1.0.is).front (lexed_utf8 items tail l.1.1))
 
 -- ---- where no name goes on into items, no number does
 quiet_left_mark : IsQuiet 40
@@ -169,11 +169,11 @@ no_mark_ahead : (t : List ℕ) (item : Item) (rest other : List ℕ) → is_plai
     → Fits class_of bars item.lexeme.class item.lexeme.text rest → t ++ (item.lexeme.text ++ rest) ≡ byte_order_mark ++ other → ⊥
 no_mark_ahead (c ∷ t) item rest other plain lexeme fits same = not_mark_first c t plain (heads same)
 no_mark_ahead [] item rest other plain (variable e) fits same =
-    let s : Spelled Class.VarId item.lexeme.text rest = spelled Class.VarId item.lexeme.text rest (class_is item.lexeme.text rest fits e) in
+    let s : Spelled Class.VarId item.lexeme.text rest = spelled_in_class Class.VarId item.lexeme.text rest (class_is item.lexeme.text rest fits e) in
     let word : Word (chars item.lexeme.text) (chars rest) = word_of (chars item.lexeme.text) (chars rest) s.is in
     no_mark_kind word.first Kind.Small word.behind rest other item.lexeme.text s.front word.is word.kind refl same
 no_mark_ahead [] item rest other plain (integer e) fits same =
-    let s : Spelled Class.Integer item.lexeme.text rest = spelled Class.Integer item.lexeme.text rest (class_is item.lexeme.text rest fits e) in
+    let s : Spelled Class.Integer item.lexeme.text rest = spelled_in_class Class.Integer item.lexeme.text rest (class_is item.lexeme.text rest fits e) in
     let number : Number (chars item.lexeme.text) = number_of (chars item.lexeme.text) (chars rest) s.is in
     no_mark_kind number.first Kind.Digit number.behind rest other item.lexeme.text s.front number.is number.kind refl same
 no_mark_ahead [] item rest other plain (left e) fits same = no_mark_byte 40 item.lexeme.text rest other e refl same

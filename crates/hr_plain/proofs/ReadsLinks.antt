@@ -17,7 +17,7 @@ use Rattle.hr_plain.specs.Target.IsParted.{first, kept, apart, put}
 use Rattle.hr_plain.specs.Target.AllRespell.{none, more}
 use Rattle.hr_plain.proofs.ReadsAlone.{Quiet, quiet_stops}
 use Rattle.hr_plain.proofs.ReadsAlone.Quiet.{nothing}
-use Rattle.hr_plain.proofs.ReadsFit.{spelled}
+use Rattle.hr_plain.proofs.ReadsFit.{spelled_in_class}
 use Rattle.hr_plain.proofs.ReadsLexed.{IsPlainLexeme, IsPlainItem, ArePlain, Lexed, lexed, lexed_utf8, quiet_left, quiet_right, quiet_equals, ahead}
 use Rattle.hr_plain.proofs.ReadsLexed.IsPlainLexeme.{variable, integer, left, right, equals}
 use Rattle.hr_plain.proofs.ReadsNames.{word_stops, word_begins, byte_first, space_byte}
@@ -75,10 +75,10 @@ stays : (w t : List ℕ) (item : Item) (a b : List ℕ) → IsPlainLexeme item �
     → Fits class_of bars item.lexeme.class item.lexeme.text a → Fits class_of bars item.lexeme.class item.lexeme.text b → Ahead a → Ahead b → IsUtf8 b
     → Link w (t ++ (item.lexeme.text ++ a)) (t ++ (item.lexeme.text ++ b))
 stays w [] item a b lexeme plain is f g p q v =
-    let u : IsUtf8 item.lexeme.text = (spelled item.lexeme.class item.lexeme.text a f.is).front in
+    let u : IsUtf8 item.lexeme.text = (spelled_in_class item.lexeme.class item.lexeme.text a f.is).front in
     alike w item.lexeme.text a b u (not_empty item.lexeme.class item.lexeme.text a f.is) (numbers_kept w item a b lexeme f g p q u v)
 stays w (c ∷ t) item a b lexeme plain is f g p q v =
-    let u : IsUtf8 item.lexeme.text = (spelled item.lexeme.class item.lexeme.text a f.is).front in
+    let u : IsUtf8 item.lexeme.text = (spelled_in_class item.lexeme.class item.lexeme.text a f.is).front in
     behind_trivia w c t (item.lexeme.text ++ a) (item.lexeme.text ++ b) is plain (IsUtf8-append item.lexeme.text b u v)
 
 -- two lexemes that are read apart: the first one fits
@@ -133,16 +133,16 @@ changes : (w new t t' x a b : List ℕ) → IsVarId new → w ≢ [] → IsParte
     → Fits class_of bars Class.VarId new b → Ahead b → IsUtf8 b → Link w (t ++ (x ++ a)) (t' ++ (new ++ b))
 changes w new t t' x a b new_is some (first old) e is plain g q v = absurd (some refl)
 changes w new t t' x a b new_is some (kept before c old) e is plain g q v =
-    behind_trivia w c old (x ++ a) (new ++ b) is plain (IsUtf8-append new b (spelled Class.VarId new [] new_is).front v)
+    behind_trivia w c old (x ++ a) (new ++ b) is plain (IsUtf8-append new b (spelled_in_class Class.VarId new [] new_is).front v)
 changes w new t t' x a b new_is some (apart before are) e is plain g q v =
-    let u : IsUtf8 new = (spelled Class.VarId new [] new_is).front in
+    let u : IsUtf8 new = (spelled_in_class Class.VarId new [] new_is).front in
     record {
       names = λ stop. absurd (true≢false (sym stop ∙ (word_begins x a a e).0));
       symbols = λ stop. (word_begins new [] b new_is).1;
       numbers = λ f. number_word w new [] b (apart_fits w (x ++ a) new some u f are) u v (subst Quiet (sym chars-nil) nothing) (q (word_stops new b g.is));
     }
 changes w new t t' x a b new_is some (put c before not_apart) e is plain g q v =
-    let u : IsUtf8 (new ++ b) = IsUtf8-append new b (spelled Class.VarId new [] new_is).front v in
+    let u : IsUtf8 (new ++ b) = IsUtf8-append new b (spelled_in_class Class.VarId new [] new_is).front v in
     let blank : Quiet (chars (32 ∷ (new ++ b))) = quiet_blank (new ++ b) in
     record {
       names = λ stop. quiet_stops is_in_name (chars (32 ∷ (new ++ b))) blank (λ c k. k.name);

@@ -18,7 +18,7 @@ use Rattle.hr_lexer.specs.LexemeReader.{lexeme_at, lexeme_at_by}
 use Rattle.hr_lexer.specs.NameReader.{word_at}
 use Rattle.hr_lexer.proofs.Bytes.{none_some}
 use Rattle.hr_lexer.proofs.RunsRead.{one_more, run_len}
-use Rattle.hr_plain.proofs.ReadsFit.{Reads, Spelled, spelled, fits_read, read_fits}
+use Rattle.hr_plain.proofs.ReadsFit.{IsTaken, Spelled, spelled_in_class, fits_read, read_fits}
 use Rattle.hr_plain.proofs.ReadsKinds.{Word, word_of, Number, number_of}
 
 word_parts : (b : Bool) (class : Class) → cond b (Some class) None ≡ Some Class.VarId → (b ≡ true) × (class ≡ Class.VarId)
@@ -34,7 +34,7 @@ record WordParts (w prior : List ℕ) : Type 0 where
 
 parts_of : (w prior : List ℕ) → class_of w prior ≡ Some Class.VarId → WordParts w prior
 parts_of w prior e =
-    let s : Spelled Class.VarId w prior = spelled Class.VarId w prior e in
+    let s : Spelled Class.VarId w prior = spelled_in_class Class.VarId w prior e in
     let word : Word (chars w) (chars prior) = word_of (chars w) (chars prior) s.is in
     let parts = word_parts (is_run is_in_name word.behind (chars prior)) (word_class (word.first ∷ word.behind)) word.class in
     record {
@@ -61,7 +61,7 @@ word_fits w prior other e v stop =
     let at : lexeme_at (chars w ++ after) ≡ Some (word_at (c ∷ (front ++ after))) =
     ap (λ z. lexeme_at (z ++ after)) parts.word.is ∙ ap (λ k. lexeme_at_by k c (front ++ after)) parts.word.kind in
     let class : word_class (c ∷ take (length front) (front ++ after)) ≡ Class.VarId = ap (λ t. word_class (c ∷ t)) (take-append_seam front after) ∙ parts.class in
-    let read : Reads Class.VarId (chars w) after =
+    let read : IsTaken Class.VarId (chars w) after =
     at
     ∙ (ap (λ n. Some (record { class = word_class (take n (c ∷ (front ++ after))); len = n })) len
     ∙ (ap (λ k. Some (record { class = k; len = suc (length front) })) class
@@ -79,7 +79,7 @@ word_begins x prior rest e =
 
 pub number_begins : (x prior rest : List ℕ) → class_of x prior ≡ Some Class.Integer → ends_run is_in_name (chars (x ++ rest)) ≡ false
 number_begins x prior rest e =
-    let s : Spelled Class.Integer x prior = spelled Class.Integer x prior e in
+    let s : Spelled Class.Integer x prior = spelled_in_class Class.Integer x prior e in
     let number : Number (chars x) = number_of (chars x) (chars prior) s.is in
     ap (ends_run is_in_name) (chars-append x rest s.front ∙ ap (λ l. l ++ chars rest) number.is) ∙ ap (λ k. not (continues_name k)) number.kind
 
@@ -124,7 +124,7 @@ byte_first c rest is = chars-append (c ∷ []) rest (byte_text c is) ∙ ap (λ 
 -- lexemes of one character
 alike : (class : Class) (c : ℕ) (rest other : List ℕ) → Fits class_of bars class (c ∷ []) rest → IsUtf8 other → lexeme_at (chars (c ∷ []) ++ chars rest) ≡ lexeme_at (chars (c ∷ []) ++ chars other)
     → Fits class_of bars class (c ∷ []) other
-alike class c rest other f v e = fits_read class (c ∷ []) other (spelled class (c ∷ []) rest f.is).front v (sym e ∙ read_fits class (c ∷ []) rest f)
+alike class c rest other f v e = fits_read class (c ∷ []) other (spelled_in_class class (c ∷ []) rest f.is).front v (sym e ∙ read_fits class (c ∷ []) rest f)
 
 one : (c : ℕ) (rest : List ℕ) → IsByte c → lexeme_at (chars (c ∷ []) ++ rest) ≡ lexeme_at (c ∷ rest)
 one c rest is = ap (λ l. lexeme_at (l ++ rest)) (byte_alone c is)
@@ -170,7 +170,7 @@ symbol_parts false x class e = absurd (none_some e)
 
 equals_stops : (class : Class) (rest : List ℕ) → class_of (61 ∷ []) rest ≡ Some class → ends_run is_symbol (chars rest) ≡ true
 equals_stops class rest e =
-    let s : Spelled class (61 ∷ []) rest = spelled class (61 ∷ []) rest e in
+    let s : Spelled class (61 ∷ []) rest = spelled_in_class class (61 ∷ []) rest e in
     let is : spelled_class_by Kind.Symbol 61 [] (chars rest) ≡ Some class =
     sym (ap (λ l. spelled_class l (chars rest)) (byte_alone 61 equals_byte) ∙ ap (λ k. spelled_class_by k 61 [] (chars rest)) equals_kind) ∙ s.is in
     both_left (ends_run is_symbol (chars rest)) (not (is_dashes (61 ∷ []))) (symbol_parts (ends_run is_symbol (chars rest) && not (is_dashes (61 ∷ []))) (run_class (61 ∷ [])) class is)

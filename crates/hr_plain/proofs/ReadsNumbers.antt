@@ -25,7 +25,7 @@ use Rattle.hr_lexer.proofs.NamesRead.{kept}
 use Rattle.hr_lexer.proofs.RunsRead.{run_len, some_is, len_of}
 use Rattle.hr_plain.proofs.ReadsAlone.{Quiet, number_alone}
 use Rattle.hr_plain.proofs.ReadsAlone.Quiet.{nothing}
-use Rattle.hr_plain.proofs.ReadsFit.{Reads, Spelled, spelled, unspelled, bars_spelled, fits_read, read_fits}
+use Rattle.hr_plain.proofs.ReadsFit.{IsTaken, Spelled, spelled_in_class, unspelled, bars_spelled, fits_read, read_fits}
 use Rattle.hr_plain.proofs.ReadsKinds.{Number, number_of}
 
 read_number : (cs after : List ℕ) (number : Number cs) → lexeme_at (cs ++ after) ≡ number_at (number.first ∷ (number.behind ++ after))
@@ -35,7 +35,7 @@ read_number cs after number = ap (λ z. lexeme_at (z ++ after)) number.is ∙ ap
 alike : (w rest other : List ℕ) (number : Number (chars w)) → Fits class_of bars Class.Integer w rest → IsUtf8 w → IsUtf8 other
     → number_at (number.first ∷ (number.behind ++ chars rest)) ≡ number_at (number.first ∷ (number.behind ++ chars other)) → Fits class_of bars Class.Integer w other
 alike w rest other number f u v same =
-    let reads : Reads Class.Integer (chars w) (chars other) =
+    let reads : IsTaken Class.Integer (chars w) (chars other) =
     read_number (chars w) (chars other) number ∙ (sym same ∙ (sym (read_number (chars w) (chars rest) number) ∙ read_fits Class.Integer w rest f)) in
     fits_read Class.Integer w other u v reads
 
@@ -75,7 +75,7 @@ not_too_wide c rest d e =
 -- what is an integer before one text is one before each
 pub integer_anywhere : (w rest other : List ℕ) → class_of w rest ≡ Some Class.Integer → IsUtf8 other → class_of w other ≡ Some Class.Integer
 integer_anywhere w rest other e v =
-    let s : Spelled Class.Integer w rest = spelled Class.Integer w rest e in
+    let s : Spelled Class.Integer w rest = spelled_in_class Class.Integer w rest e in
     let number : Number (chars w) = number_of (chars w) (chars rest) s.is in
     let is : spelled_class (chars w) (chars other) ≡ Some Class.Integer =
     ap (λ z. spelled_class z (chars other)) number.is ∙ (ap (λ k. spelled_class_by k number.first number.behind (chars other)) number.kind ∙ number.class) in
@@ -83,7 +83,7 @@ integer_anywhere w rest other e v =
 
 fits_alone : (w rest : List ℕ) → class_of w rest ≡ Some Class.Integer → Fits class_of bars Class.Integer w []
 fits_alone w rest e =
-    let s : Spelled Class.Integer w rest = spelled Class.Integer w rest e in
+    let s : Spelled Class.Integer w rest = spelled_in_class Class.Integer w rest e in
     let number : Number (chars w) = number_of (chars w) (chars rest) s.is in
     let free : spelled_bars (chars w) ≡ false =
     ap spelled_bars number.is ∙ (ap (λ k. spelled_bars_by k number.first number.behind) number.kind ∙ not_too_wide number.first number.behind (digit_decimal number.first number.kind) number.class) in
@@ -101,7 +101,7 @@ no_end = subst Quiet (sym chars-nil) nothing
 -- where no number goes on
 pub number_quiet : (w rest other : List ℕ) → Fits class_of bars Class.Integer w rest → IsUtf8 other → Quiet (chars other) → Fits class_of bars Class.Integer w other
 number_quiet w rest other f v q =
-    let s : Spelled Class.Integer w rest = spelled Class.Integer w rest f.is in
+    let s : Spelled Class.Integer w rest = spelled_in_class Class.Integer w rest f.is in
     let number : Number (chars w) = number_of (chars w) (chars rest) s.is in
     let d : is_decimal number.first ≡ true = digit_decimal number.first number.kind in
     alike w [] other number (fits_alone w rest f.is) s.front v
@@ -117,7 +117,7 @@ before_text c behind x rest d u q =
 pub number_word : (w x rest other : List ℕ) → Fits class_of bars Class.Integer w (x ++ rest) → IsUtf8 x → IsUtf8 other → Quiet (chars rest) → Quiet (chars other)
     → Fits class_of bars Class.Integer w (x ++ other)
 number_word w x rest other f u v q r =
-    let s : Spelled Class.Integer w (x ++ rest) = spelled Class.Integer w (x ++ rest) f.is in
+    let s : Spelled Class.Integer w (x ++ rest) = spelled_in_class Class.Integer w (x ++ rest) f.is in
     let number : Number (chars w) = number_of (chars w) (chars (x ++ rest)) s.is in
     let d : is_decimal number.first ≡ true = digit_decimal number.first number.kind in
     alike w (x ++ rest) (x ++ other) number f s.front (IsUtf8-append x other u v)
@@ -271,8 +271,8 @@ beside c (m ∷ front) d dc dd some rest other at =
 -- before an integer that stays
 pub number_digits : (w x rest other : List ℕ) → Fits class_of bars Class.Integer w (x ++ rest) → Fits class_of bars Class.Integer x rest → IsUtf8 other → Fits class_of bars Class.Integer w (x ++ other)
 number_digits w x rest other f g v =
-    let s : Spelled Class.Integer w (x ++ rest) = spelled Class.Integer w (x ++ rest) f.is in
-    let t : Spelled Class.Integer x rest = spelled Class.Integer x rest g.is in
+    let s : Spelled Class.Integer w (x ++ rest) = spelled_in_class Class.Integer w (x ++ rest) f.is in
+    let t : Spelled Class.Integer x rest = spelled_in_class Class.Integer x rest g.is in
     let number : Number (chars w) = number_of (chars w) (chars (x ++ rest)) s.is in
     let next : Number (chars x) = number_of (chars x) (chars rest) t.is in
     let split_at : (after : List ℕ) → chars (x ++ after) ≡ next.first ∷ (next.behind ++ chars after) = λ after. chars-append x after t.front ∙ ap (λ l. l ++ chars after) next.is in
@@ -283,6 +283,6 @@ number_digits w x rest other f g v =
     ap (λ l. number_at (number.first ∷ (number.behind ++ l))) (sym (split_at rest)) ∙ (sym (read_number (chars w) (chars (x ++ rest)) number) ∙ (read_fits Class.Integer w (x ++ rest) f ∙ len)) in
     let moved : number_at (number.first ∷ (number.behind ++ next.first ∷ (next.behind ++ chars other))) ≡ Some (record { class = Class.Integer; len = suc (length number.behind) }) =
     beside number.first number.behind next.first (digit_decimal number.first number.kind) (digit_decimal next.first next.kind) (ap is_some value.1) (next.behind ++ chars rest) (next.behind ++ chars other) at in
-    let reads : Reads Class.Integer (chars w) (chars (x ++ other)) =
+    let reads : IsTaken Class.Integer (chars w) (chars (x ++ other)) =
     read_number (chars w) (chars (x ++ other)) number ∙ (ap (λ l. number_at (number.first ∷ (number.behind ++ l))) (split_at other) ∙ (moved ∙ sym len)) in
     fits_read Class.Integer w (x ++ other) s.front (IsUtf8-append x other t.front v) reads

@@ -14,7 +14,7 @@ use Rattle.hr_plain.specs.Form.{IsPlain, is_plain_trivia}
 use Rattle.hr_plain.specs.Target.{IsParted, AllRespell, RespellsAll}
 use Rattle.hr_plain.specs.Target.IsParted.{first, kept, apart, put}
 use Rattle.hr_plain.specs.Target.AllRespell.{none, more}
-use Rattle.hr_plain.proofs.ReadsFit.{spelled}
+use Rattle.hr_plain.proofs.ReadsFit.{spelled_in_class}
 use Rattle.hr_plain.proofs.ReadsForm.{plain_module}
 use Rattle.hr_plain.proofs.ReadsLexed.{IsPlainLexeme, ArePlain, Lexed, lexes, lexed_text, lexed_utf8, led_by_nothing, unmarked}
 use Rattle.hr_plain.proofs.ReadsLexed.IsPlainLexeme.{variable, integer, left, right, equals}
@@ -56,7 +56,7 @@ respelled_lexed {new} tail new_is plain (more before false marks old item olds i
     let old_some : old.lexeme.text ≢ [] = not_empty old.lexeme.class old.lexeme.text a l.1.0.is in
     let some : item.lexeme.text ≢ [] = subst (λ (i : Item). i.lexeme.text ≢ []) (sym r) old_some in
     let link : Link old.lexeme.text a b = subst (λ (i : Item). Link i.lexeme.text a b) r (linked tail new_is plain rest some l.1.1 behind p.1 o.1) in
-    let text : IsUtf8 old.lexeme.text = (spelled old.lexeme.class old.lexeme.text a l.1.0.is).front in
+    let text : IsUtf8 old.lexeme.text = (spelled_in_class old.lexeme.class old.lexeme.text a l.1.0.is).front in
     let there : Lexed (old ∷ items) tail = (
       trivia_before old.lexeme.class old.trivia old.lexeme.text a (old.lexeme.text ++ b) l.0 l.1.0 (IsUtf8-append old.lexeme.text b text u),
       (stays old a b p.0.lexeme l.1.0 u link, behind),
@@ -74,7 +74,7 @@ respelled_lexed {new} tail new_is plain (more before true marks old item olds it
     let link : Link item.lexeme.text a b = linked tail new_is plain rest some l.1.1 behind p.1 o.1 in
     let old_is : class_of old.lexeme.text a ≡ Some Class.VarId = l.1.0.is ∙ ap Some (o.0 refl) in
     let fits : Fits class_of bars Class.VarId new b = word_fits new [] b new_is u (link.names (word_stops old.lexeme.text a old_is)) in
-    let trivia : Trivia is_piece item.trivia (new ++ b) = parted_before r.1 old.lexeme.class old.lexeme.text a (new ++ b) l.0 l.1.0 (IsUtf8-append new b (spelled Class.VarId new [] new_is).front u) in (
+    let trivia : Trivia is_piece item.trivia (new ++ b) = parted_before r.1 old.lexeme.class old.lexeme.text a (new ++ b) l.0 l.1.0 (IsUtf8-append new b (spelled_in_class Class.VarId new [] new_is).front u) in (
       subst (λ x. Trivia is_piece item.trivia (x ++ b)) (sym text) trivia,
       (
         subst (λ x. Fits class_of bars item.lexeme.class x b) (sym text) (subst (λ k. Fits class_of bars k new b) (sym class) fits),

@@ -18,7 +18,7 @@ use Rattle.hr_lexer.proofs.Bytes.{none_some, piece_bytes}
 use Rattle.hr_plain.specs.Form.{is_plain_trivia, is_plain_trivia_where}
 use Rattle.hr_plain.proofs.ReadsAlone.{IsQuiet, Quiet}
 use Rattle.hr_plain.proofs.ReadsAlone.Quiet.{something}
-use Rattle.hr_plain.proofs.ReadsFit.{Spelled, spelled, bars_spelled}
+use Rattle.hr_plain.proofs.ReadsFit.{Spelled, spelled_in_class, bars_spelled}
 use Rattle.hr_plain.proofs.ReadsNames.{linefeed_byte, space_byte, dash_byte, byte_first}
 
 pub trivia_utf8 : {t a : List ℕ} → Trivia is_piece t a → IsUtf8 t
@@ -112,7 +112,7 @@ not_empty class text after e empty = no_class (sym (ap (λ t. class_of t after) 
 -- trivia before a lexeme is trivia before any text
 pub trivia_before : (class : Class) (t text rest other : List ℕ) → Trivia is_piece t (text ++ rest) → Fits class_of bars class text rest → IsUtf8 other → Trivia is_piece t other
 trivia_before class t text rest other is fits v =
-    let s : Spelled class text rest = spelled class text rest fits.is in
+    let s : Spelled class text rest = spelled_in_class class text rest fits.is in
     let free : spelled_bars (chars (text ++ rest)) ≡ false = sym (bars_spelled (text ++ rest)) ∙ fits.begins in
     let some : chars (text ++ rest) ≢ [] = λ e. chars_some text s.front (not_empty class text rest fits.is) (front_empty (chars text) (chars rest) (sym (chars-append text rest s.front) ∙ e)) in
     trivia_moved is other v (λ e. absurd (no_line (chars (text ++ rest)) free some e))

@@ -31,14 +31,14 @@ joined [] = None
 joined (atom ∷ []) = Some atom
 joined (atom ∷ (other ∷ atoms)) = Some (Apply (atom ∷ (other ∷ atoms)))
 
-abbrev pub behind : {X : Type 0} → X → Option (List X × X) → List X × X
-behind x None = ([], x)
-behind x (Some (xs, last)) = (x ∷ xs, last)
+abbrev pub put_before : {X : Type 0} → X → Option (List X × X) → List X × X
+put_before x None = ([], x)
+put_before x (Some (xs, last)) = (x ∷ xs, last)
 
 -- all but the last one, and the last one
 abbrev pub split_last : {X : Type 0} → List X → Option (List X × X)
 split_last [] = None
-split_last (x ∷ xs) = Some (behind x (split_last xs))
+split_last (x ∷ xs) = Some (put_before x (split_last xs))
 
 abbrev pub nothing_read : Body
 nothing_read = record { atoms = []; outer = [] }
@@ -59,8 +59,8 @@ abbrev pub closed_in : List Exp → Item → List Outer × Outer → Option Body
 closed_in atoms right outer = option_map (grouped outer.0 outer.1 right) (joined atoms)
 
 -- with a `)`
-abbrev pub closed : Body → Item → Option Body
-closed body right = option_and_then (closed_in body.atoms right) (split_last body.outer)
+abbrev pub group_closed : Body → Item → Option Body
+group_closed body right = option_and_then (closed_in body.atoms right) (split_last body.outer)
 
 -- with an item
 abbrev pub body_with : Body → Item → Option Body
@@ -68,7 +68,7 @@ body_with body item =
     if is_plain_variable item then Some (with_atom body (Variable item))
     else (if is_integer item then Some (with_atom body (Integer item))
     else (if is_mark 40 item then opened body item
-    else (if is_mark 41 item then closed body item else None)))
+    else (if is_mark 41 item then group_closed body item else None)))
 
 abbrev pub joined_outside : List Outer → List Exp → Option Exp
 joined_outside [] atoms = joined atoms

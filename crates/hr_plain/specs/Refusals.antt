@@ -3,7 +3,7 @@ use Rattle.std.specs.Prelude.{◌≡◌, ℕ, List, Option, Some, None}
 use Rattle.hr_base.specs.declared.lexeme.Items.{Items}
 use Rattle.hr_rules.specs.Lexemes.{LexesText}
 use Rattle.hr_lexer.specs.Refusals.{IsCause}
-use Rattle.hr_lexer.specs.Shown.{place_of, refusal_number}
+use Rattle.hr_lexer.specs.Shown.{refusal_place, refusal_number}
 use Rattle.hr_plain_tree.specs.declared.tree.Module.{Module}
 use Rattle.hr_plain.specs.declared.loading.LoadError.{LoadError}
 use Rattle.hr_plain.specs.Form.{IsPlain}
@@ -23,6 +23,6 @@ load_number (LoadError.Memory _) = None
 
 -- its place in the text in bytes from 0, where it has one
 abbrev pub load_place : LoadError → Option ℕ
-load_place (LoadError.Lex text error) = place_of error
+load_place (LoadError.Lex text error) = refusal_place error
 load_place (LoadError.OutsideForm text) = None
 load_place (LoadError.Memory _) = None

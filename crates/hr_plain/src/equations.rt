@@ -174,15 +174,15 @@ fn part_end(part: Part) -> Option<Equation>
             patterns,
             equals,
             body,
-        } => match limited(body) {
-            Some(body) => Some(Equation {
+        } => {
+            let body = limited(body)?;
+            Some(Equation {
                 name,
                 patterns,
                 equals,
                 body,
-            }),
-            None => None,
-        },
+            })
+        }
     }
 }
 
@@ -190,15 +190,11 @@ fn part_end(part: Part) -> Option<Equation>
 fn limited(body: Body) -> Option<Exp>
     ensures { result ≡ spec.limited_end body }
 {
-    match body_end(body) {
-        Some(exp) => {
-            if is_within(&exp, HEIGHT_LIMIT) {
-                Some(exp)
-            } else {
-                None
-            }
-        }
-        None => None,
+    let exp = body_end(body)?;
+    if is_within(&exp, HEIGHT_LIMIT) {
+        Some(exp)
+    } else {
+        None
     }
 }
 
@@ -207,10 +203,10 @@ fn last_of(part: Option<Part>) -> Option<Option<Equation>>
     ensures { result ≡ spec.last_of part }
 {
     match part {
-        Some(part) => match part_end(part) {
-            Some(equation) => Some(Some(equation)),
-            None => None,
-        },
+        Some(part) => {
+            let equation = part_end(part)?;
+            Some(Some(equation))
+        }
         None => Some(None),
     }
 }

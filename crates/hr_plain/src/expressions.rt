@@ -57,7 +57,7 @@ pub fn body_with(alloc: Global, body: Body, item: Item) -> Result<Option<Body>, 
         return opened(alloc, body, item);
     }
     if is_mark(&item, b')') {
-        return closed(alloc, body, item);
+        return group_closed(alloc, body, item);
     }
     Ok(None)
 }
@@ -87,17 +87,17 @@ fn opened(alloc: Global, body: Body, left: Item) -> Result<Option<Body>, AllocEr
 }
 
 /// The expression with a `)`.
-fn closed(alloc: Global, body: Body, right: Item) -> Result<Option<Body>, AllocError>
-    ensures { IfOk result (λ found. found ≡ spec.closed body right) }
+fn group_closed(alloc: Global, body: Body, right: Item) -> Result<Option<Body>, AllocError>
+    ensures { IfOk result (λ found. found ≡ spec.group_closed body right) }
 {
     let Body { atoms, outer } = body;
-    match split_last(outer) {
-        Some((outer, last)) => match joined(atoms) {
-            Some(inner) => Ok(Some(grouped(alloc, outer, last, right, inner)?)),
-            None => Ok(None),
-        },
-        None => Ok(None),
-    }
+    let Some((outer, last)) = split_last(outer) else {
+        return Ok(None);
+    };
+    let Some(inner) = joined(atoms) else {
+        return Ok(None);
+    };
+    Ok(Some(grouped(alloc, outer, last, right, inner)?))
 }
 
 /// All but the innermost one, and that.
@@ -106,10 +106,8 @@ fn split_last(outer: Seq<Outer>) -> Option<(Seq<Outer>, Outer)>
     ensures { result ≡ spec.split_last outer }
 {
     let mut outer = outer;
-    match outer.list.pop() {
-        Some(last) => Some((outer, last)),
-        None => None,
-    }
+    let last = outer.list.pop()?;
+    Some((outer, last))
 }
 
 fn grouped(

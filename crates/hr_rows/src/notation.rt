@@ -62,8 +62,8 @@ fn next_piece(rest: &[u8]) -> Option<(Piece<'_>, &[u8])>
 fn repetition(rest: &[u8]) -> Option<(Piece<'_>, &[u8])>
     ensures { IfSome result (λ found. length found.1.now < length rest.now) }
 {
-    let (digits, behind) = rest.split_at(place_of(rest, b'{')?);
-    let (text, tail) = behind.split_at(place_of(behind, b'}')?);
+    let (digits, behind) = rest.split_at(index_of(rest, b'{')?);
+    let (text, tail) = behind.split_at(index_of(behind, b'}')?);
     let times = number(digits)?;
     let (_, text) = text.split_first()?;
     let (_, tail) = tail.split_first()?;
@@ -71,7 +71,7 @@ fn repetition(rest: &[u8]) -> Option<(Piece<'_>, &[u8])>
 }
 
 /// Where a byte first stands.
-fn place_of(bytes: &[u8], sought: u8) -> Option<usize>
+fn index_of(bytes: &[u8], sought: u8) -> Option<usize>
     ensures { IfSome result (λ place. place < length bytes.now) }
 {
     bytes.iter().position(|byte| *byte == sought)

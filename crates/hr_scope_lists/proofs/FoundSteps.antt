@@ -19,7 +19,7 @@ use Rattle.hr_scope_rules.specs.Exports.{InScope, StandsFor}
 use Rattle.hr_scope_rules.specs.Binds.{Innermost, DeclaredThere, Global, Used, IsSpelled, ExportedBy, HiddenBy, PartOf, Listed, Candidate}
 use Rattle.hr_scope_rules.specs.Binds.HiddenBy.{value_or_type, constructor_alone}
 use Rattle.hr_scope_lists.specs.Scopes.{Scoped, same_space, same_entity, is_named, is_part, all_parts, standing, exports_of, scope_of}
-use Rattle.hr_scope_lists.specs.Found.{declarers, innermost, globals, declared_there, found_in, used_by, spelled, spelled_at, named_exports, exported_by, types_standing, types_named, is_constructor, is_value_or_type, first_or, hidden, parts_named, listed, candidates}
+use Rattle.hr_scope_lists.specs.Found.{declarers, innermost, globals, declared_there, found_in, used_by, spelling_of, spelling_at, named_exports, exported_by, types_standing, types_named, is_constructor, is_value_or_type, first_or, hidden, parts_named, listed, candidates}
 use Rattle.hr_scope_lists.proofs.Members.{none, here, single, in_map, from_map, in_filter, from_filter, any_decides, same_some}
 use Rattle.hr_scope_lists.proofs.Tests.{space_decides, entity_decides, named_decides}
 use Rattle.hr_scope_lists.proofs.Parts.{part_decides}
@@ -120,32 +120,32 @@ module _ (modules : List Module) (number : ℕ) (tree : Module) (at : slice_get 
           (found_complete space name binder h.0 h.2)
 
   -- how the lexeme of a number is spelled
-  spelled_sound : (lexeme : ℕ) (name : Name) → spelled_at (lexemes tree) lexeme ≡ Some name → IsSpelled tree lexeme name
-  spelled_sound lexeme name e = by (slice_get (lexemes tree) lexeme) refl e
+  spelling_sound : (lexeme : ℕ) (name : Name) → spelling_at (lexemes tree) lexeme ≡ Some name → IsSpelled tree lexeme name
+  spelling_sound lexeme name e = by (slice_get (lexemes tree) lexeme) refl e
     where
-      by : (o : Option Placed) → slice_get (lexemes tree) lexeme ≡ o → spelled o ≡ Some name → IsSpelled tree lexeme name
+      by : (o : Option Placed) → slice_get (lexemes tree) lexeme ≡ o → spelling_of o ≡ Some name → IsSpelled tree lexeme name
       by None is e = let clash : ◌≡◌ {A = Option Name} None (Some name) = e in cc
       by (Some mark) is e = (mark, is, same_some (name_of mark.item.lexeme) name e)
 
-  spelled_complete : (lexeme : ℕ) (name : Name) → IsSpelled tree lexeme name → spelled_at (lexemes tree) lexeme ≡ Some name
-  spelled_complete lexeme name h = ap spelled h.1 ∙ ap Some h.2
+  spelling_complete : (lexeme : ℕ) (name : Name) → IsSpelled tree lexeme name → spelling_at (lexemes tree) lexeme ≡ Some name
+  spelling_complete lexeme name h = ap spelling_of h.1 ∙ ap Some h.2
 
   exported_sound : (lexeme : ℕ) (entity : Entity) → Contains (exported_by modules tree lexeme) entity → ExportedBy modules tree lexeme entity
-  exported_sound lexeme entity h = by (spelled_at (lexemes tree) lexeme) refl h
+  exported_sound lexeme entity h = by (spelling_at (lexemes tree) lexeme) refl h
     where
-      by : (o : Option Name) → spelled_at (lexemes tree) lexeme ≡ o → Contains (named_exports modules o) entity → ExportedBy modules tree lexeme entity
+      by : (o : Option Name) → spelling_at (lexemes tree) lexeme ≡ o → Contains (named_exports modules o) entity → ExportedBy modules tree lexeme entity
       by None is g = absurd (none entity g)
       by (Some name) is g =
           let found = from_modules_of (exports_of modules) 0 modules name.text entity g in
           let place : 0 + found.0 ≡ found.0 = omega arith in
           let inside : Contains (exports_of modules found.0) entity = subst (λ n. Contains (exports_of modules n) entity) place found.4 in
-          (found.0, found.1, found.2, name, spelled_sound lexeme name is, found.3, (exports_agree modules found.0 entity).0 inside)
+          (found.0, found.1, found.2, name, spelling_sound lexeme name is, found.3, (exports_agree modules found.0 entity).0 inside)
 
   exported_complete : (lexeme : ℕ) (entity : Entity) → ExportedBy modules tree lexeme entity → Contains (exported_by modules tree lexeme) entity
   exported_complete lexeme entity h =
       let place : h.0 ≡ 0 + h.0 = omega arith in
       let inside : Contains (exports_of modules (0 + h.0)) entity = subst (λ n. Contains (exports_of modules n) entity) place ((exports_agree modules h.0 entity).1 h.6) in
-      subst (λ (o : Option Name). Contains (named_exports modules o) entity) (sym (spelled_complete lexeme h.3 h.4))
+      subst (λ (o : Option Name). Contains (named_exports modules o) entity) (sym (spelling_complete lexeme h.3 h.4))
       (in_modules_of (exports_of modules) 0 modules h.3.text entity h.0 h.1 h.2 h.5 inside)
 
   exported_by_agrees : (lexeme : ℕ) (entity : Entity) → Contains (exported_by modules tree lexeme) entity ↔ ExportedBy modules tree lexeme entity
@@ -227,32 +227,32 @@ module _ (modules : List Module) (number : ℕ) (tree : Module) (at : slice_get 
           Decides-and (bytes_eq entity.text text) (list_any (λ ty. is_part (all_parts modules) ty entity) types) (bytes_eq-Decides entity.text text)
           (any_decides (λ ty. is_part (all_parts modules) ty entity) (λ ty. IsPart modules ty entity) (λ ty. part_decides modules ty entity) types)
 
-  types_standing_agree : (lexeme : ℕ) (ty : Entity) → Contains (types_standing (scope_of modules tree) (spelled_at (lexemes tree) lexeme)) ty
+  types_standing_agree : (lexeme : ℕ) (ty : Entity) → Contains (types_standing (scope_of modules tree) (spelling_at (lexemes tree) lexeme)) ty
       ↔ ((whole : Name) × IsSpelled tree lexeme whole × StandsFor (InScope modules number) Space.TypeName whole ty)
   types_standing_agree lexeme ty = (
-    by (spelled_at (lexemes tree) lexeme) refl,
-    (λ h. subst (λ (o : Option Name). Contains (types_standing (scope_of modules tree) o) ty) (sym (spelled_complete lexeme h.0 h.1)) ((stands Space.TypeName h.0 ty).1 h.2)),
+    by (spelling_at (lexemes tree) lexeme) refl,
+    (λ h. subst (λ (o : Option Name). Contains (types_standing (scope_of modules tree) o) ty) (sym (spelling_complete lexeme h.0 h.1)) ((stands Space.TypeName h.0 ty).1 h.2)),
   )
     where
-      by : (o : Option Name) → spelled_at (lexemes tree) lexeme ≡ o → Contains (types_standing (scope_of modules tree) o) ty
+      by : (o : Option Name) → spelling_at (lexemes tree) lexeme ≡ o → Contains (types_standing (scope_of modules tree) o) ty
           → (whole : Name) × IsSpelled tree lexeme whole × StandsFor (InScope modules number) Space.TypeName whole ty
       by None is h = absurd (none ty h)
-      by (Some whole) is h = (whole, spelled_sound lexeme whole is, (stands Space.TypeName whole ty).0 h)
+      by (Some whole) is h = (whole, spelling_sound lexeme whole is, (stands Space.TypeName whole ty).0 h)
 
-  types_named_agree : (origin lexeme : ℕ) (ty : Entity) → Contains (types_named (exported_by modules tree origin) (spelled_at (lexemes tree) lexeme)) ty
+  types_named_agree : (origin lexeme : ℕ) (ty : Entity) → Contains (types_named (exported_by modules tree origin) (spelling_at (lexemes tree) lexeme)) ty
       ↔ ((whole : Name) × IsSpelled tree lexeme whole × ExportedBy modules tree origin ty × IsNamed Space.TypeName whole.text ty)
   types_named_agree origin lexeme ty = (
-    by (spelled_at (lexemes tree) lexeme) refl,
-    (λ h. subst (λ (o : Option Name). Contains (types_named (exported_by modules tree origin) o) ty) (sym (spelled_complete lexeme h.0 h.1))
+    by (spelling_at (lexemes tree) lexeme) refl,
+    (λ h. subst (λ (o : Option Name). Contains (types_named (exported_by modules tree origin) o) ty) (sym (spelling_complete lexeme h.0 h.1))
         ((named_agrees origin Space.TypeName h.0.text ty).1 (h.2, h.3))),
   )
     where
-      by : (o : Option Name) → spelled_at (lexemes tree) lexeme ≡ o → Contains (types_named (exported_by modules tree origin) o) ty
+      by : (o : Option Name) → spelling_at (lexemes tree) lexeme ≡ o → Contains (types_named (exported_by modules tree origin) o) ty
           → (whole : Name) × IsSpelled tree lexeme whole × ExportedBy modules tree origin ty × IsNamed Space.TypeName whole.text ty
       by None is h = absurd (none ty h)
       by (Some whole) is h =
           let named = (named_agrees origin Space.TypeName whole.text ty).0 h in
-          (whole, spelled_sound lexeme whole is, named.0, named.1)
+          (whole, spelling_sound lexeme whole is, named.0, named.1)
 
   any_in_scope : (entity : Entity) → Contains (map (λ (one : Scoped). one.1) (scope_of modules tree)) entity ↔ ((qualifier : Option (List ℕ)) × InScope modules number qualifier entity)
   any_in_scope entity = any_agrees modules (scope_of modules tree) (InScope modules number) in_scope entity
@@ -260,12 +260,12 @@ module _ (modules : List Module) (number : ℕ) (tree : Module) (at : slice_get 
   listed_agrees : (role : Role) (name : Name) (entity : Entity) → Contains (listed modules tree role name) entity ↔ Listed modules number tree role name entity
   listed_agrees (Role.Exported space) name entity = stands space name entity
   listed_agrees (Role.ExportedPart ty) name entity =
-      parts_agree (types_standing (scope_of modules tree) (spelled_at (lexemes tree) ty)) (map (λ (one : Scoped). one.1) (scope_of modules tree))
+      parts_agree (types_standing (scope_of modules tree) (spelling_at (lexemes tree) ty)) (map (λ (one : Scoped). one.1) (scope_of modules tree))
       (λ of. (whole : Name) × IsSpelled tree ty whole × StandsFor (InScope modules number) Space.TypeName whole of) (λ e. (qualifier : Option (List ℕ)) × InScope modules number qualifier e)
       (types_standing_agree ty) any_in_scope name.text entity
   listed_agrees (Role.Imported origin space) name entity = named_agrees origin space name.text entity
   listed_agrees (Role.ImportedPart origin ty) name entity =
-      parts_agree (types_named (exported_by modules tree origin) (spelled_at (lexemes tree) ty)) (exported_by modules tree origin)
+      parts_agree (types_named (exported_by modules tree origin) (spelling_at (lexemes tree) ty)) (exported_by modules tree origin)
       (λ of. (whole : Name) × IsSpelled tree ty whole × ExportedBy modules tree origin of × IsNamed Space.TypeName whole.text of) (ExportedBy modules tree origin)
       (types_named_agree origin ty) (exported_by_agrees origin) name.text entity
   listed_agrees (Role.Hidden origin) name entity = (hidden_sound origin name.text entity, hidden_complete origin name.text entity)

@@ -62,19 +62,19 @@ abbrev pub used : List Scoped → Module → ℕ → List Region → Space → N
 used scope tree number regions space name = used_by scope tree number regions space name name.qualifier
 
 -- how the lexeme of that number is spelled, if there is one
-abbrev pub spelled : Option Placed → Option Name
-spelled None = None
-spelled (Some mark) = Some (name_of mark.item.lexeme)
+abbrev pub spelling_of : Option Placed → Option Name
+spelling_of None = None
+spelling_of (Some mark) = Some (name_of mark.item.lexeme)
 
-abbrev pub spelled_at : List Placed → ℕ → Option Name
-spelled_at marks number = spelled (slice_get marks number)
+abbrev pub spelling_at : List Placed → ℕ → Option Name
+spelling_at marks number = spelling_of (slice_get marks number)
 
 abbrev pub named_exports : List Module → Option Name → List Entity
 named_exports modules None = []
 named_exports modules (Some name) = from_modules (exports_of modules) 0 modules name.text
 
 abbrev pub exported_by : List Module → Module → ℕ → List Entity
-exported_by modules tree lexeme = named_exports modules (spelled_at (lexemes tree) lexeme)
+exported_by modules tree lexeme = named_exports modules (spelling_at (lexemes tree) lexeme)
 
 -- the types for which the name stands, and those of its spelling
 abbrev pub types_standing : List Scoped → Option Name → List Entity
@@ -107,10 +107,10 @@ parts_named modules types text entities =
 abbrev pub listed : List Module → Module → Role → Name → List Entity
 listed modules tree (Role.Exported space) name = standing (scope_of modules tree) space name
 listed modules tree (Role.ExportedPart ty) name =
-    parts_named modules (types_standing (scope_of modules tree) (spelled_at (lexemes tree) ty)) name.text (map (λ one. one.1) (scope_of modules tree))
+    parts_named modules (types_standing (scope_of modules tree) (spelling_at (lexemes tree) ty)) name.text (map (λ one. one.1) (scope_of modules tree))
 listed modules tree (Role.Imported origin space) name = filter (is_named space name.text) (exported_by modules tree origin)
 listed modules tree (Role.ImportedPart origin ty) name =
-    parts_named modules (types_named (exported_by modules tree origin) (spelled_at (lexemes tree) ty)) name.text (exported_by modules tree origin)
+    parts_named modules (types_named (exported_by modules tree origin) (spelling_at (lexemes tree) ty)) name.text (exported_by modules tree origin)
 listed modules tree (Role.Hidden origin) name = hidden (exported_by modules tree origin) name.text
 listed modules tree _ name = []
 

@@ -17,7 +17,8 @@ use Rattle.hr_script.specs.declared.command.Verb.{Verb}
 use Rattle.hr_script.specs.declared.command.Verb.TheVariants as verb
 use Rattle.hr_script.specs.Texts.{is_module_name, is_word}
 use Rattle.hr_script.specs.Language.{verb_of, verb_word, pos_word, texts_of, line_of, IsSpot, IsSpeakable, IsCommandLine}
-use Rattle.hr_script.specs.Reader.{verbs, has_word, verb_named, cut_at, when, number_in, position_in, spot_of, at_spot, of_two, with_text, of_three, without_words, command_in}
+use Rattle.hr_script.specs.Numbers.{cut_at, when, number_in, position_in}
+use Rattle.hr_script.specs.Reader.{verbs, has_word, verb_named, spot_of, at_spot, of_two, with_text, of_three, without_words, command_in}
 use Rattle.hr_script.proofs.Letters.{both, both_left, both_right, word_lacks, module_lacks}
 use Rattle.hr_script.proofs.Numerals.{when_some, some_same, number_is, number_there, pos_is, pos_there, pos_lacks, decimal_lacks}
 use Rattle.hr_script.proofs.Pieces.{Lacks, cut_again}

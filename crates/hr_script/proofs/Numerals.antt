@@ -11,7 +11,7 @@ use Rattle.std.proofs.lemmas.List.Splits.{join_with_byte-slice_split}
 use Rattle.std.proofs.lemmas.Str.Parse.{IsNumeralModel, IsDigitsTest, FoldsDigits, numerals_by_fold, not_in_digits}
 use Rattle.hr_base.specs.declared.place.Pos.{Pos}
 use Rattle.hr_script.specs.Language.{IsNumber, IsPosition, pos_word}
-use Rattle.hr_script.specs.Reader.{when, begins_number, decimal_value, in_32_bits, number_in, from_one, cut_at, pos_from, pos_in, position_in}
+use Rattle.hr_script.specs.Numbers.{when, begins_number, decimal_value, in_32_bits, number_in, from_one, cut_at, pos_from, pos_in, position_in}
 use Rattle.hr_script.proofs.Letters.{both, both_left, both_right}
 use Rattle.hr_script.proofs.Pieces.{Lacks, lacks_at, cut_again}
 

@@ -5,7 +5,7 @@ use Rattle.std.proofs.lemmas.Bool.{eq-eqb, ne_eqb}
 use Rattle.std.proofs.lemmas.List.{get_or_default}
 use Rattle.std.proofs.lemmas.List.Sums.{AllPass-from_list_all}
 use Rattle.std.proofs.lemmas.List.Splits.{slice_split_none, slice_split_at}
-use Rattle.hr_script.specs.Reader.{cut_at}
+use Rattle.hr_script.specs.Numbers.{cut_at}
 
 -- the separator stands nowhere in the text
 abbrev pub Lacks : ℕ → List ℕ → Type 0

@@ -13,7 +13,8 @@ use Rattle.hr_script.specs.declared.command.Command.TheVariants.{Rename, AddPara
 use Rattle.hr_script.specs.Language.{line_of, IsSpeakable, IsCommandLine, is_linefeed, is_skipped, AreLines, Script, IsLine, script_bytes}
 use Rattle.hr_script.specs.Language.AreLines.{ends, skips, commands}
 use Rattle.hr_script.specs.Laws.{IsFirstBad, IsMemory}
-use Rattle.hr_script.specs.Reader.{command_in, cut_at}
+use Rattle.hr_script.specs.Numbers.{cut_at}
+use Rattle.hr_script.specs.Reader.{command_in}
 use Rattle.hr_script.specs.declared.error.ScriptError.{ScriptError}
 use Rattle.hr_script.specs.declared.error.ScriptError.TheVariants.{BadLine, TooManySteps, Memory}
 use Rattle.hr_script.specs.Progress.{Progress, Adds, IsLineRefused}

@@ -14,7 +14,9 @@ mod writing;
 pub use command::{Command, Verb};
 pub use error::ScriptError;
 pub use laws::{one_script, written_parses_back};
+pub use numbers::pos_of;
 pub use reading::parse_script;
+pub use texts::{is_module_name, is_word};
 pub use writing::write_script;
 
 #[cfg(test)]

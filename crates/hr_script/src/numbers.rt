@@ -2,22 +2,22 @@
 ghost use Rattle.std.specs.Prelude.{◌≡◌, map, IfOk};
 ghost use Rattle.std.specs.Char.{is_ascii_digit};
 ghost use Rattle.std.specs.List.{list_all};
-ghost use Rattle.hr_script.specs.Reader as reader;
+ghost use Rattle.hr_script.specs.Numbers as spec;
 
 use hr_base::Pos;
 use std::alloc::{AllocError, Global};
 
 /// The pieces between the separators.
 pub(crate) fn pieces(alloc: Global, text: &[u8], separator: u8) -> Result<Vec<&[u8]>, AllocError>
-    ensures { IfOk result (λ pieces. map (λ piece. piece.now) pieces.items ≡ reader.cut_at separator text.now) }
+    ensures { IfOk result (λ pieces. map (λ piece. piece.now) pieces.items ≡ spec.cut_at separator text.now) }
 {
     text.split(|byte| *byte == separator).collect(alloc)
 }
 
 /// The number that the text is, if 32 bits hold it.
-#[tactic(auto, unfolding(crate::specs::Reader::number_in))]
+#[tactic(auto, unfolding(crate::specs::Numbers::number_in))]
 pub(crate) fn number_of(text: &[u8]) -> Option<u32>
-    ensures { result ≡ reader.number_in text.now }
+    ensures { result ≡ spec.number_in text.now }
 {
     if begins_number(text) && all_digits(text) {
         value_of(text)
@@ -27,7 +27,7 @@ pub(crate) fn number_of(text: &[u8]) -> Option<u32>
 }
 
 fn begins_number(text: &[u8]) -> bool
-    ensures { result ≡ reader.begins_number text.now }
+    ensures { result ≡ spec.begins_number text.now }
 {
     match text {
         [] => false,
@@ -43,9 +43,9 @@ fn all_digits(text: &[u8]) -> bool
 }
 
 /// What decimal digits stand for, if 32 bits hold it.
-#[tactic(auto, unfolding(crate::specs::Reader::decimal_value))]
+#[tactic(auto, unfolding(crate::specs::Numbers::decimal_value))]
 fn value_of(digits: &[u8]) -> Option<u32>
-    ensures { result ≡ reader.in_32_bits (reader.decimal_value digits.now) }
+    ensures { result ≡ spec.in_32_bits (spec.decimal_value digits.now) }
 {
     let mut value = 0u64;
     for digit in digits {
@@ -62,7 +62,7 @@ const GREATEST: u64 = 4_294_967_295;
 
 /// The number that the text is, if it is 1 or more.
 fn counted(text: &[u8]) -> Option<u32>
-    ensures { result ≡ reader.from_one (reader.number_in text.now) }
+    ensures { result ≡ spec.from_one (spec.number_in text.now) }
 {
     match number_of(text) {
         Some(0) => None,
@@ -71,9 +71,9 @@ fn counted(text: &[u8]) -> Option<u32>
 }
 
 /// The position that the text is, as `LINE:COLUMN`.
-#[tactic(auto, unfolding(crate::specs::Reader::position_in))]
-pub(crate) fn pos_of(alloc: Global, text: &[u8]) -> Result<Option<Pos>, AllocError>
-    ensures { IfOk result (λ found. found ≡ reader.position_in text.now) }
+#[tactic(auto, unfolding(crate::specs::Numbers::position_in))]
+pub fn pos_of(alloc: Global, text: &[u8]) -> Result<Option<Pos>, AllocError>
+    ensures { IfOk result (λ found. found ≡ spec.position_in text.now) }
 {
     match pieces(alloc, text, b':')?.as_slice() {
         [line, col] => match (counted(line), counted(col)) {

@@ -29,7 +29,7 @@ pub(crate) fn is_utf8(bytes: &[u8]) -> bool
 
 /// Whether the word is a conid of the lexical rules.
 #[tactic(auto, unfolding(crate::specs::Texts::is_module_name))]
-pub(crate) fn is_module_name(word: &[u8]) -> bool
+pub fn is_module_name(word: &[u8]) -> bool
     ensures { result ≡ spec.is_module_name word.now }
 {
     match text_of(word) {
@@ -55,7 +55,7 @@ fn has_name_alone(text: &str) -> bool
 
 /// Whether the word has a character, and none that is a blank of the lexical rules.
 #[tactic(auto, unfolding(crate::specs::Texts::is_word))]
-pub(crate) fn is_word(word: &[u8]) -> bool
+pub fn is_word(word: &[u8]) -> bool
     ensures { result ≡ spec.is_word word.now }
 {
     match text_of(word) {

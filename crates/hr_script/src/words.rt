@@ -1,5 +1,6 @@
 //! A line's command.
 ghost use Rattle.std.specs.Prelude.{◌≡◌, map, IfOk, Some};
+ghost use Rattle.hr_script.specs.Numbers.{cut_at};
 ghost use Rattle.hr_script.specs.Reader as reader;
 ghost use Rattle.hr_script.specs.declared.command.Verb.TheVariants as verb;
 
@@ -11,7 +12,7 @@ use std::alloc::{AllocError, Global};
 
 /// The command that the line is, if it is one.
 pub(crate) fn command_of(alloc: Global, line: &[u8]) -> Result<Option<Command>, AllocError>
-    ensures { IfOk result (λ found. found ≡ reader.command_in (reader.cut_at 32 line.now)) }
+    ensures { IfOk result (λ found. found ≡ reader.command_in (cut_at 32 line.now)) }
 {
     let words = pieces(alloc, line, b' ')?;
     command_in(alloc, words.as_slice())

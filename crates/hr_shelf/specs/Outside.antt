@@ -31,8 +31,8 @@ abbrev pub Rose : ℕ → ℕ → Type 0
 Rose before now = min (before + 1) (2 ^ 64 - 1) ≤ now
 
 -- a read gave what a told shelf holds for the name
-abbrev pub Reads : Option Files → List ℕ → List ℕ → Type 0
-Reads told name bytes = IfSome told (λ files. get files name ≡ Some bytes)
+abbrev pub HasBytes : Option Files → List ℕ → List ℕ → Type 0
+HasBytes told name bytes = IfSome told (λ files. get files name ≡ Some bytes)
 
 -- a told shelf holds more bytes for the name than the limit
 abbrev pub HoldsMore : Files → List ℕ → ℕ → Type 0

@@ -5,7 +5,7 @@ ghost use Rattle.hr_shelf.specs.Outside.{StaysReady};
 ghost use Rattle.hr_shelf.specs.Memory.{new_shelf, with_file, names, read_answer, Refused, after_read, after_replace, shelf_fails};
 
 use crate::calls::Calls;
-use crate::entries::place_of;
+use crate::entries::place_named;
 use crate::{Failed, ReadError, Shelf};
 use hr_base::{Seq, Text};
 use std::alloc::{AllocError, Global};
@@ -51,7 +51,7 @@ impl MemoryShelf {
         ensures stays { OnErr result (self.new ≡ self.old) }
     {
         let bytes = Seq { list: bytes };
-        if let Some(place) = place_of(&self.files, name.as_bytes()) {
+        if let Some(place) = place_named(&self.files, name.as_bytes()) {
             self.files[place].1 = bytes;
             return Ok(());
         }
@@ -64,7 +64,7 @@ impl MemoryShelf {
     pub fn bytes(&self, name: &str) -> Option<&[u8]>
         ensures { option_copied result ≡ map.get self.now.files name.now }
     {
-        let place = place_of(&self.files, name.as_bytes())?;
+        let place = place_named(&self.files, name.as_bytes())?;
         Some(self.files[place].1.as_slice())
     }
 }
@@ -101,7 +101,7 @@ impl Shelf for MemoryShelf {
             self.replace_faults = self.replace_faults.saturating_add(1);
             return Err(Failed);
         }
-        let place = place_of(&self.files, name.as_bytes()).unwrap();
+        let place = place_named(&self.files, name.as_bytes()).unwrap();
         self.files[place].1 = Seq { list: bytes };
         Ok(())
     }

@@ -1,5 +1,5 @@
 ghost use Rattle.std.specs.Prelude.{◌≡◌, ◌≤◌, ◌+◌, length, IfOk, IfErr, OnOk, OnErr};
-ghost use Rattle.hr_shelf.specs.Outside.{Store, Output, Rose, NoneFalls, Reads, MayRefuse, replaced, IsReady, StaysReady, appended, AppendsPrefix};
+ghost use Rattle.hr_shelf.specs.Outside.{Store, Output, Rose, NoneFalls, HasBytes, MayRefuse, replaced, IsReady, StaysReady, appended, AppendsPrefix};
 
 use std::alloc::Global;
 use thiserror::Error;
@@ -29,7 +29,7 @@ pub trait Shelf {
 
     /// The bytes of a file, at most `limit` of them.
     fn read(&mut self, alloc: Global, name: &str, limit: usize) -> Result<Vec<u8>, ReadError>
-        ensures bytes { IfOk result (λ bytes. Reads (store self.old).told name.now bytes.items) }
+        ensures bytes { IfOk result (λ bytes. HasBytes (store self.old).told name.now bytes.items) }
         ensures within { IfOk result (λ bytes. length bytes.items ≤ limit) }
         ensures gets_ready { OnOk result (IsReady (store self.new).ready name.now) }
         ensures cause { IfErr result (λ error. MayRefuse error (store self.old).told name.now limit (Rose ((store self.old).read_faults name.now) ((store self.new).read_faults name.now))) }

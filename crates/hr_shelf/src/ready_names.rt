@@ -3,7 +3,7 @@ ghost use Rattle.std.specs.List.{list_any};
 ghost use Rattle.std.specs.Str.{bytes_eq};
 ghost use Rattle.hr_shelf.specs.System.{with_name};
 
-use crate::entries::place_of;
+use crate::entries::place_named;
 use crate::seen::Seen;
 use hr_base::Text;
 use std::alloc::{AllocError, Global};
@@ -46,7 +46,7 @@ impl ReadyNames {
         ensures added { OnOk result (self.new ≡ with_name self.old name.now) }
         ensures stays { OnErr result (self.new ≡ self.old) }
     {
-        if let Some(place) = place_of(&self.list, name.as_bytes()) {
+        if let Some(place) = place_named(&self.list, name.as_bytes()) {
             self.list[place].1.seen = seen;
             return Ok(());
         }
@@ -60,7 +60,7 @@ impl ReadyNames {
     pub fn see(&mut self, name: &str, seen: Seen)
         ensures { self.new ≡ self.old }
     {
-        if let Some(place) = place_of(&self.list, name.as_bytes()) {
+        if let Some(place) = place_named(&self.list, name.as_bytes()) {
             self.list[place].1.seen = seen;
         }
     }
@@ -70,7 +70,7 @@ impl ReadyNames {
         requires { Contains self.now name.now }
         ensures { string_bytes result.now.beside ≡ name.now ++ codes ".hare" }
     {
-        let place = place_of(&self.list, name.as_bytes()).unwrap();
+        let place = place_named(&self.list, name.as_bytes()).unwrap();
         &self.list[place].1
     }
 
@@ -78,7 +78,7 @@ impl ReadyNames {
     pub fn has(&self, name: &str) -> bool
         ensures { result ≡ list_any (bytes_eq name.now) self.now }
     {
-        place_of(&self.list, name.as_bytes()).is_some()
+        place_named(&self.list, name.as_bytes()).is_some()
     }
 
     /// Whether the file is one of those that were read, under whatever name.

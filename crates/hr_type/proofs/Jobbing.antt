@@ -45,11 +45,11 @@ module _ (o n p : List ℕ) where
   one_text v w h k = ap (λ x. x ++ p) (h ∙ ap (λ x. o ++ x) k) ∙ append_assoc o w p
 
   pub bracket_text : (scope : TypeScope) (e : Entity) (b : Brackets) (ws : List Written) (q r : List ℕ) → n ≡ o ++ spec.opening b → q ≡ spec.closing b ++ p → r ≡ bytes_of (spec.listed ws) ++ q
-      → n ++ r ≡ o ++ (bytes_of (spec.applied scope e (Some b) ws).pieces ++ p)
+      → n ++ r ≡ o ++ (bytes_of (spec.application scope e (Some b) ws).pieces ++ p)
   bracket_text scope e b ws q r h k l = (λ i. h i ++ (l ∙ ap (λ x. bytes_of (spec.listed ws) ++ x) k) i) ∙ simp (append_assoc, bytes_of-append, append-nil)
 
   pub argument_text : (scope : TypeScope) (e : Entity) (ws : List Written) (r : List ℕ) → n ≡ o ++ bytes_of (spec.name_pieces (spec.name_for e scope.names)) → r ≡ bytes_of (spec.arguments ws) ++ p
-      → n ++ r ≡ o ++ (bytes_of (spec.applied scope e None ws).pieces ++ p)
+      → n ++ r ≡ o ++ (bytes_of (spec.application scope e None ws).pieces ++ p)
   argument_text scope e ws r h l = (λ i. h i ++ l i) ∙ simp (append_assoc, bytes_of-append)
 
   pub parenthesis_text : (least : ℕ) (w : Written) (q r m : List ℕ) → nat_lt w.grade least ≡ true → n ≡ o ++ codes "(" → q ≡ codes ")" ++ p → m ++ r ≡ n ++ (bytes_of w.pieces ++ q)

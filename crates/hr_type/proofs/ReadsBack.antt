@@ -13,7 +13,7 @@ use Rattle.hr_type.specs.declared.spell.TypeScope.{TypeScope}
 use Rattle.hr_type.specs.declared.spell.Brackets.{Brackets}
 use Rattle.hr_type.specs.Spelling as spec
 use Rattle.hr_type.specs.Spelling.{Piece, blank, lexeme, lexemes_of, Written, written, within, brackets_of, is_spellable, has_arities}
-use Rattle.hr_type.specs.Grammar.{Reads, Arguments, Lists, Follows, variable, constructor, enclosed, parenthesised, applied, arrow, lower, no_more, one_more, nothing, first, ends, comma}
+use Rattle.hr_type.specs.Grammar.{ReadsType, Arguments, Lists, Follows, variable, constructor, enclosed, parenthesised, applied, arrow, lower, no_more, one_more, nothing, first, ends, comma}
 use Rattle.hr_type.proofs.Terms.{every_type, value-var, value-con, value-fun}
 use Rattle.hr_type.proofs.Spellings.{written_var, written_fun, written_enclosed, written_applied}
 
@@ -28,29 +28,29 @@ and_parts false b e = absurd (cc)
 
 module _ (scope : TypeScope) where
   -- what stands at a grade stands at each lower one
-  downs : (xs : List (List ℕ)) (t : Mono) (g k : ℕ) → k ≤ g → Reads scope g xs t → Reads scope k xs t
-  downs xs t zero k h r = let e : 0 ≡ k = omega arith in subst (λ n. Reads scope n xs t) e r
+  downs : (xs : List (List ℕ)) (t : Mono) (g k : ℕ) → k ≤ g → ReadsType scope g xs t → ReadsType scope k xs t
+  downs xs t zero k h r = let e : 0 ≡ k = omega arith in subst (λ n. ReadsType scope n xs t) e r
   downs xs t (suc g) k h r = by_cases (eqb_tells k (suc g)) (λ le. downs xs t g k le (lower g xs t r))
     where
-      by_cases : ((eqb k (suc g) ≡ true) × (k ≡ suc g)) ⊎ ((eqb k (suc g) ≡ false) × (k ≢ suc g)) → (k ≤ g → Reads scope k xs t) → Reads scope k xs t
-      by_cases (inl y) go = subst (λ n. Reads scope n xs t) (sym y.1) r
+      by_cases : ((eqb k (suc g) ≡ true) × (k ≡ suc g)) ⊎ ((eqb k (suc g) ≡ false) × (k ≢ suc g)) → (k ≤ g → ReadsType scope k xs t) → ReadsType scope k xs t
+      by_cases (inl y) go = subst (λ n. ReadsType scope n xs t) (sym y.1) r
       by_cases (inr y) go = let ne : k ≡ suc g → ⊥ = y.1 in go (omega arith)
 
   ReadsAt : Written → Mono → Type 0
-  ReadsAt w t = Reads scope w.grade (lexemes_of w.pieces) t
+  ReadsAt w t = ReadsType scope w.grade (lexemes_of w.pieces) t
 
   -- where the grade is too low, parentheses raise it
-  reads_within : (w : Written) (t : Mono) (least : ℕ) → least ≤ 2 → Reads scope w.grade (lexemes_of w.pieces) t → Reads scope least (lexemes_of (within least w)) t
+  reads_within : (w : Written) (t : Mono) (least : ℕ) → least ≤ 2 → ReadsType scope w.grade (lexemes_of w.pieces) t → ReadsType scope least (lexemes_of (within least w)) t
   reads_within w t least small r = by_test (nat_lt w.grade least) refl
     where
-      by_test : (b : Bool) → nat_lt w.grade least ≡ b → Reads scope least (lexemes_of (cond b (lexeme (codes "(") ∷ (w.pieces ++ lexeme (codes ")") ∷ [])) w.pieces)) t
+      by_test : (b : Bool) → nat_lt w.grade least ≡ b → ReadsType scope least (lexemes_of (cond b (lexeme (codes "(") ∷ (w.pieces ++ lexeme (codes ")") ∷ [])) w.pieces)) t
       by_test true e =
-          let whole : Reads scope 2 (codes "(" ∷ (lexemes_of w.pieces ++ codes ")" ∷ [])) t = parenthesised _ t (downs _ t w.grade 0 (omega arith) r) in
-          downs _ t 2 least small (subst (λ xs. Reads scope 2 (codes "(" ∷ xs) t) (sym (lexemes_of-append w.pieces (lexeme (codes ")") ∷ []))) whole)
+          let whole : ReadsType scope 2 (codes "(" ∷ (lexemes_of w.pieces ++ codes ")" ∷ [])) t = parenthesised _ t (downs _ t w.grade 0 (omega arith) r) in
+          downs _ t 2 least small (subst (λ xs. ReadsType scope 2 (codes "(" ∷ xs) t) (sym (lexemes_of-append w.pieces (lexeme (codes ")") ∷ []))) whole)
       by_test false e = downs _ t w.grade least (ltb-false w.grade least e) r
 
   Claim : Mono → Type 0
-  Claim t = is_spellable scope t ≡ true → has_arities t ≡ true → Reads scope (written scope t).grade (lexemes_of (written scope t).pieces) t
+  Claim t = is_spellable scope t ≡ true → has_arities t ≡ true → ReadsType scope (written scope t).grade (lexemes_of (written scope t).pieces) t
 
   all_spellable : List Mono → Bool
   all_spellable ts = list_all (λ b. b) (map (is_spellable scope) ts)
@@ -93,7 +93,7 @@ module _ (scope : TypeScope) where
   var_reads n named fit =
       let inside : n < length scope.variables = ltb-true n (length scope.variables) (sym (value-var _ _ _ _ n) ∙ named) in
       let found = slice_get-get_or scope.variables n [] inside in
-      subst (λ w. Reads scope w.grade (lexemes_of w.pieces) (Var n)) (sym (written_var scope (Var n) n refl ∙ ap (λ o. record { grade = 2; pieces = spec.variable_pieces o }) found))
+      subst (λ w. ReadsType scope w.grade (lexemes_of w.pieces) (Var n)) (sym (written_var scope (Var n) n refl ∙ ap (λ o. record { grade = 2; pieces = spec.variable_pieces o }) found))
       (variable n _ found)
 
   fun_reads : (a b : Mono) → Claim a → Claim b → Claim (Fun a b)
@@ -103,12 +103,12 @@ module _ (scope : TypeScope) where
       let f = and_parts (has_arities a) (has_arities b) (sym (value-fun _ _ _ _ a b) ∙ fit) in
       let left = reads_within (written scope a) a 1 (omega arith) (claim_a n.0 f.0) in
       let right = downs _ b (written scope b).grade 0 (omega arith) (claim_b n.1 f.1) in
-      subst (λ w. Reads scope w.grade (lexemes_of w.pieces) (Fun a b)) (sym (written_fun scope (Fun a b) a b refl))
-      (subst (λ xs. Reads scope 0 xs (Fun a b)) (sym (lexemes_of-append (within 1 (written scope a)) (blank ∷ lexeme (codes "->") ∷ blank ∷ (written scope b).pieces))) (arrow _ _ a b left right))
+      subst (λ w. ReadsType scope w.grade (lexemes_of w.pieces) (Fun a b)) (sym (written_fun scope (Fun a b) a b refl))
+      (subst (λ xs. ReadsType scope 0 xs (Fun a b)) (sym (lexemes_of-append (within 1 (written scope a)) (blank ∷ lexeme (codes "->") ∷ blank ∷ (written scope b).pieces))) (arrow _ _ a b left right))
 
   -- a constructor with its arguments behind it
   applied_reads : (e : Entity) (name : Name) (ts : List Mono) → brackets_of e ≡ None → spec.name_for e scope.names ≡ Some name → Each Claim ts → all_spellable ts ≡ true → all_arities ts ≡ true
-      → Reads scope (spec.applied_grade (map (written scope) ts)) (spec.name_text name ∷ lexemes_of (spec.arguments (map (written scope) ts))) (Con e ts)
+      → ReadsType scope (spec.applied_grade (map (written scope) ts)) (spec.name_text name ∷ lexemes_of (spec.arguments (map (written scope) ts))) (Con e ts)
   applied_reads e name [] q found claims named fit = constructor e name q found
   applied_reads e name (t ∷ ts) q found claims named fit = applied e name _ t ts q found (arguments_read (t ∷ ts) claims named fit)
 
@@ -122,26 +122,26 @@ module _ (scope : TypeScope) where
       f : (spec.fits_arity e (length (map has_arities ts)) (brackets_of e) ≡ true) × (list_all (λ b. b) (map has_arities ts) ≡ true)
       f = and_parts _ _ (sym (value-con _ _ _ _ e ts) ∙ fit)
 
-      by_name : brackets_of e ≡ None → (o : Option Name) → spec.name_for e scope.names ≡ o → is_some o ≡ true → Reads scope (written scope (Con e ts)).grade (lexemes_of (written scope (Con e ts)).pieces) (Con e ts)
+      by_name : brackets_of e ≡ None → (o : Option Name) → spec.name_for e scope.names ≡ o → is_some o ≡ true → ReadsType scope (written scope (Con e ts)).grade (lexemes_of (written scope (Con e ts)).pieces) (Con e ts)
       by_name q None found has = absurd (cc)
       by_name q (Some name) found has =
-          subst (λ (w : Written). Reads scope w.grade (lexemes_of w.pieces) (Con e ts)) (sym (written_applied scope (Con e ts) e ts refl q))
-          (subst (λ o. Reads scope (spec.applied_grade (map (written scope) ts)) (lexemes_of (spec.name_pieces o ++ spec.arguments (map (written scope) ts))) (Con e ts)) (sym found)
+          subst (λ (w : Written). ReadsType scope w.grade (lexemes_of w.pieces) (Con e ts)) (sym (written_applied scope (Con e ts) e ts refl q))
+          (subst (λ o. ReadsType scope (spec.applied_grade (map (written scope) ts)) (lexemes_of (spec.name_pieces o ++ spec.arguments (map (written scope) ts))) (Con e ts)) (sym found)
           (applied_reads e name ts q found claims n.1 f.1))
 
       by_brackets : (o : Option Brackets) → brackets_of e ≡ o → (is_some o || is_some (spec.name_for e scope.names)) ≡ true → spec.fits_arity e (length (map has_arities ts)) o ≡ true
-          → Reads scope (written scope (Con e ts)).grade (lexemes_of (written scope (Con e ts)).pieces) (Con e ts)
+          → ReadsType scope (written scope (Con e ts)).grade (lexemes_of (written scope (Con e ts)).pieces) (Con e ts)
       by_brackets None q has arity = by_name q (spec.name_for e scope.names) refl has
       by_brackets (Some b) q has arity =
           let count : length ts ≡ spec.arity_by (length e.text) b = sym (length-map ts has_arities) ∙ eqb-true _ _ arity in
-          subst (λ (w : Written). Reads scope w.grade (lexemes_of w.pieces) (Con e ts)) (sym (written_enclosed scope (Con e ts) e ts b refl q))
-          (subst (λ xs. Reads scope 2 (spec.opening b ∷ xs) (Con e ts)) (sym (lexemes_of-append (spec.listed (map (written scope) ts)) (lexeme (spec.closing b) ∷ [])))
+          subst (λ (w : Written). ReadsType scope w.grade (lexemes_of w.pieces) (Con e ts)) (sym (written_enclosed scope (Con e ts) e ts b refl q))
+          (subst (λ xs. ReadsType scope 2 (spec.opening b ∷ xs) (Con e ts)) (sym (lexemes_of-append (spec.listed (map (written scope) ts)) (lexeme (spec.closing b) ∷ [])))
           (enclosed e b _ ts q count (listed_reads ts claims n.1 f.1)))
 
   every_reads : (t : Mono) → Claim t
   every_reads = every_type Claim var_reads con_reads fun_reads
 
   -- what is written for a type reads as the type
-  pub reads_back : (t : Mono) → is_spellable scope t ≡ true → has_arities t ≡ true → Reads scope 0 (lexemes_of (written scope t).pieces) t
+  pub reads_back : (t : Mono) → is_spellable scope t ≡ true → has_arities t ≡ true → ReadsType scope 0 (lexemes_of (written scope t).pieces) t
   unfolding Claim
   reads_back t named fit = downs _ t (written scope t).grade 0 (omega arith) (every_reads t named fit)

@@ -20,17 +20,17 @@ module _ (scope : TypeScope) (t : Mono) where
   pub written_var : (n : ℕ) → t ≡ Var n → written scope t ≡ record { grade = 2; pieces = spec.variable_pieces (slice_get scope.variables n) }
   written_var n h = ap (written scope) h ∙ value-var _ _ _ _ n
 
-  pub written_con : (e : Entity) (ts : List Mono) → t ≡ Con e ts → written scope t ≡ spec.applied scope e (brackets_of e) (map (written scope) ts)
+  pub written_con : (e : Entity) (ts : List Mono) → t ≡ Con e ts → written scope t ≡ spec.application scope e (brackets_of e) (map (written scope) ts)
   written_con e ts h = ap (written scope) h ∙ value-con _ _ _ _ e ts
 
   pub written_fun : (a b : Mono) → t ≡ Fun a b → written scope t ≡ spec.arrow (written scope a) (written scope b)
   written_fun a b h = ap (written scope) h ∙ value-fun _ _ _ _ a b
 
-  pub written_enclosed : (e : Entity) (ts : List Mono) (b : Brackets) → t ≡ Con e ts → brackets_of e ≡ Some b → written scope t ≡ spec.applied scope e (Some b) (map (written scope) ts)
-  written_enclosed e ts b h k = written_con e ts h ∙ ap (λ o. spec.applied scope e o (map (written scope) ts)) k
+  pub written_enclosed : (e : Entity) (ts : List Mono) (b : Brackets) → t ≡ Con e ts → brackets_of e ≡ Some b → written scope t ≡ spec.application scope e (Some b) (map (written scope) ts)
+  written_enclosed e ts b h k = written_con e ts h ∙ ap (λ o. spec.application scope e o (map (written scope) ts)) k
 
-  pub written_applied : (e : Entity) (ts : List Mono) → t ≡ Con e ts → brackets_of e ≡ None → written scope t ≡ spec.applied scope e None (map (written scope) ts)
-  written_applied e ts h k = written_con e ts h ∙ ap (λ o. spec.applied scope e o (map (written scope) ts)) k
+  pub written_applied : (e : Entity) (ts : List Mono) → t ≡ Con e ts → brackets_of e ≡ None → written scope t ≡ spec.application scope e None (map (written scope) ts)
+  written_applied e ts h k = written_con e ts h ∙ ap (λ o. spec.application scope e o (map (written scope) ts)) k
 
 pub applied_grade-map : {X Y : Type 0} (f : X → Y) (xs : List X) → spec.applied_grade (map f xs) ≡ spec.applied_grade xs
 applied_grade-map f [] = refl

@@ -147,9 +147,9 @@ abbrev pub applied_grade : {X : Type 0} → List X → ℕ
 applied_grade [] = 2
 applied_grade (x ∷ xs) = 1
 
-abbrev pub applied : TypeScope → Entity → Option Brackets → List Written → Written
-applied scope e (Some brackets) ws = record { grade = 2; pieces = lexeme (opening brackets) ∷ (listed ws ++ lexeme (closing brackets) ∷ []) }
-applied scope e None ws = record { grade = applied_grade ws; pieces = name_pieces (name_for e scope.names) ++ arguments ws }
+abbrev pub application : TypeScope → Entity → Option Brackets → List Written → Written
+application scope e (Some brackets) ws = record { grade = 2; pieces = lexeme (opening brackets) ∷ (listed ws ++ lexeme (closing brackets) ∷ []) }
+application scope e None ws = record { grade = applied_grade ws; pieces = name_pieces (name_for e scope.names) ++ arguments ws }
 
 abbrev pub arrow : Written → Written → Written
 arrow a b = record { grade = 0; pieces = within 1 a ++ blank ∷ lexeme (codes "->") ∷ blank ∷ b.pieces }
@@ -157,5 +157,5 @@ arrow a b = record { grade = 0; pieces = within 1 a ++ blank ∷ lexeme (codes "
 -- a type as it is written in a scope
 abbrev pub written : TypeScope → Mono → Written
 written scope =
-    value Written (λ e ws. applied scope e (brackets_of e) ws) arrow
+    value Written (λ e ws. application scope e (brackets_of e) ws) arrow
     (λ n. record { grade = 2; pieces = variable_pieces (slice_get scope.variables n) })

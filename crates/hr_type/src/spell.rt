@@ -4,7 +4,7 @@ ghost use Rattle.std.specs.List.{list_all, list_any};
 ghost use Rattle.std.specs.Option.{option_copied};
 ghost use Rattle.hr_type.specs.Spelling as spec;
 ghost use Rattle.hr_type.specs.Types.{same_entity};
-ghost use Rattle.hr_type.specs.Grammar.{Reads};
+ghost use Rattle.hr_type.specs.Grammar.{ReadsType};
 ghost use Rattle.hr_type.specs.declared.spell.TypeScope.{TypeScope};
 
 use crate::Mono;

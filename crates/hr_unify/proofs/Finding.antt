@@ -9,7 +9,7 @@ use Rattle.hr_type.specs.declared.mono.Mono.{Mono}
 use Rattle.hr_type.specs.declared.mono.Mono.TheVariants.{Var, Con, Fun}
 use Rattle.hr_type.specs.Types.{variables, first_for}
 use Rattle.hr_unify.specs.Unifiers.{IsOneOf, Pairs, halves, Reaches, at_once, through, IsGood}
-use Rattle.hr_unify.specs.Refusals.{Related, given, chained, applied, from, to, head}
+use Rattle.hr_unify.specs.Refusals.{Related, given, chained, replaced_argument, from, to, head}
 use Rattle.hr_unify.specs.Working.{Avoids, Finds, FindsAmong}
 use Rattle.hr_unify.proofs.Lists.{each_of, each_both, one_left, one_right, first_one, one_first, none_one}
 use Rattle.hr_unify.proofs.Values.{variables_var, variables_con, variables_fun}
@@ -94,7 +94,7 @@ module _ (ps : Pairs) (x : ℕ) where
 
   pub finds_argument : (e : Entity) (ts us : List Mono) (seen : List ℕ) → FindsAmong ps x ts seen (Some us) → Finds ps x (Con e ts) seen (Some (Con e us))
   finds_argument e ts us seen h = (
-    subst (λ vs. Related (halves ps) (Con e ts) (Con e vs)) (sym h.swapped) (applied e ts h.place h.ty h.within h.related),
+    subst (λ vs. Related (halves ps) (Con e ts) (Con e vs)) (sym h.swapped) (replaced_argument e ts h.place h.ty h.within h.related),
     subst (IsOneOf x) (sym (variables_con e us)) (subst (λ vs. IsOneOf x (concat (map variables vs))) (sym h.swapped) (one_in_set x ts h.place h.ty h.within h.inside)),
     λ _. head_con e us ∙ ap (head e) (ap length h.swapped ∙ length-set_at ts h.place h.ty) ∙ sym (head_con e ts),
   )

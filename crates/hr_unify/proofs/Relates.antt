@@ -8,7 +8,7 @@ use Rattle.hr_type.specs.declared.mono.Mono.TheVariants.{Var, Con, Fun, outs-Var
 use Rattle.hr_type.specs.Types.{value, replaced, variables}
 use Rattle.hr_type.proofs.Terms.{every_type, value-var, value-con, value-fun, con-con, fun-fun}
 use Rattle.hr_unify.specs.Unifiers.{IsOneOf, Equations, Unifies}
-use Rattle.hr_unify.specs.Refusals.{Related, given, same, turned, chained, argument, domain, range, applied, from, to, no_head, arrow_head, head, layer_head, head_of, Clashes, HoldsItself, HasNoUnifier}
+use Rattle.hr_unify.specs.Refusals.{Related, given, same, turned, chained, argument, domain, range, replaced_argument, from, to, no_head, arrow_head, head, layer_head, head_of, Clashes, HoldsItself, HasNoUnifier}
 use Rattle.hr_unify.specs.Weights.{total, mass}
 use Rattle.hr_unify.proofs.Lists.{each_of, one_cases}
 use Rattle.hr_unify.proofs.Values.{value_fuses, variables_var, variables_con, variables_fun}
@@ -36,7 +36,7 @@ module _ (es : Equations) (by : ℕ → Mono) (u : Unifies by es) where
       ∙ get_or-map (replaced by) us i f (replaced by d) inside
   related_equal l r (domain _ b _ d h) = (fun_equal l b r d (related_equal (Fun l b) (Fun r d) h)).0
   related_equal l r (range a _ c _ h) = (fun_equal a l c r (related_equal (Fun a l) (Fun c r) h)).1
-  related_equal l r (applied e ts i v within h) =
+  related_equal l r (replaced_argument e ts i v within h) =
       value-con Mono Con Fun by e ts ∙ ap (Con e) (map_set_same (replaced by) ts i v (related_equal (get_or ts i v) v h)) ∙ sym (value-con Mono Con Fun by e (set ts i v))
   related_equal l r (from a b c h) = value-fun Mono Con Fun by a c ∙ ap (λ x. Fun x (replaced by c)) (related_equal a b h) ∙ sym (value-fun Mono Con Fun by b c)
   related_equal l r (to a b c h) = value-fun Mono Con Fun by a b ∙ ap (Fun (replaced by a)) (related_equal b c h) ∙ sym (value-fun Mono Con Fun by a c)

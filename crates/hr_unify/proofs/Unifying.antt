@@ -11,7 +11,7 @@ use Rattle.hr_unify.specs.Tasks.{Task, Equation}
 use Rattle.hr_unify.specs.declared.solve.UnifyError.{UnifyError}
 use Rattle.hr_unify.specs.declared.solve.UnifyError.TheVariants.{Mismatch, Occurs, Memory}
 use Rattle.hr_unify.specs.Unifiers.{IsOneOf, Pairs, Equations, halves, problem, Unifies, HasUnifiersOf, SpeaksOf, IsGood, Solved, Solves}
-use Rattle.hr_unify.specs.Refusals.{Related, given, same, turned, chained, argument, domain, range, applied, from, to, head_of, no_head, arrow_head, head, HoldsItself, Shows}
+use Rattle.hr_unify.specs.Refusals.{Related, given, same, turned, chained, argument, domain, range, replaced_argument, from, to, head_of, no_head, arrow_head, head, HoldsItself, Shows}
 use Rattle.hr_unify.specs.Unifiers.{names}
 use Rattle.hr_unify.specs.Working.{IsKnown, Follows, PairFollows, Keeps, Avoids, Binds, Goes, MayBind}
 use Rattle.hr_unify.proofs.Lists.{each_of, each_from, each_map, each_weaker, each_right, one_left, one_right}
@@ -111,7 +111,7 @@ cut es fs h a b (chained _ m _ p q) = chained a m b (cut es fs h a m p) (cut es 
 cut es fs h a b (argument e ts us i d f long within r) = argument e ts us i d f long within (cut es fs h (Con e ts) (Con e us) r)
 cut es fs h a b (domain _ c _ d r) = domain a c b d (cut es fs h (Fun a c) (Fun b d) r)
 cut es fs h a b (range c _ d _ r) = range c a d b (cut es fs h (Fun c a) (Fun d b) r)
-cut es fs h a b (applied e ts i u within r) = applied e ts i u within (cut es fs h (get_or ts i u) u r)
+cut es fs h a b (replaced_argument e ts i u within r) = replaced_argument e ts i u within (cut es fs h (get_or ts i u) u r)
 cut es fs h a b (from c d f r) = from c d f (cut es fs h c d r)
 cut es fs h a b (to c d f r) = to c d f (cut es fs h d f r)
 

@@ -21,7 +21,7 @@ pub data Related (equations : Equations) : Mono → Mono → Type 0 where
       → Related equations (slice_index_or ts i d) (slice_index_or us i f)
   domain : (a b c d : Mono) → Related equations (Fun a b) (Fun c d) → Related equations a c
   range : (a b c d : Mono) → Related equations (Fun a b) (Fun c d) → Related equations b d
-  applied : (e : Entity) (ts : List Mono) (i : ℕ) (u : Mono) → i < length ts → Related equations (slice_index_or ts i u) u → Related equations (Con e ts) (Con e (slice_set ts i u))
+  replaced_argument : (e : Entity) (ts : List Mono) (i : ℕ) (u : Mono) → i < length ts → Related equations (slice_index_or ts i u) u → Related equations (Con e ts) (Con e (slice_set ts i u))
   from : (a b c : Mono) → Related equations a b → Related equations (Fun a c) (Fun b c)
   to : (a b c : Mono) → Related equations b c → Related equations (Fun a b) (Fun a c)
 

@@ -6,7 +6,7 @@ use Rattle.hare.proofs.Ends.{told, was_read, replaces, leaves}
 use Rattle.hare.proofs.refactoring.replace_file.Goals as goal
 
 pub returns-in-Ok : goal.returns-in-Ok
-returns-in-Ok g c = λ words old start good read step.
+returns-in-Ok g c = λ old step start read words good.
     let puts = c.in-Ok.ensures.puts ∙ ap (replaced (g.S.Shelf.store c.args.shelf.now).told c.args.command.file.now) c.in_ok-bytes.ensures in
     told words _ _ Status.Done _ _ (
       shown c.args.command,
@@ -20,7 +20,7 @@ returns-in-Ok g c = λ words old start good read step.
     c.tell.ensures
 
 pub returns-in-Err : goal.returns-in-Err
-returns-in-Err g c = λ words old start good read step.
+returns-in-Err g c = λ old step start read words good.
     told words _ _ Status.WriteFault _ _ (
       shown c.args.command,
       old,

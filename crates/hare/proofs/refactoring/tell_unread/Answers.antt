@@ -7,7 +7,7 @@ use Rattle.hare.proofs.Ends.{told, missed}
 use Rattle.hare.proofs.refactoring.tell_unread.Goals as goal
 
 pub returns-in_ok-read_fault-in-Absent : goal.returns-in_ok-read_fault-in-Absent
-returns-in_ok-read_fault-in-Absent g c = λ words start now good refused.
+returns-in_ok-read_fault-in-Absent g c = λ start now refused words good.
     told words _ _ Status.ReadFault _ _ (
       shown c.args.command,
       good,
@@ -18,7 +18,7 @@ returns-in_ok-read_fault-in-Absent g c = λ words start now good refused.
     c.tell.ensures
 
 pub returns-in_ok-over_limit-in-TooLong : goal.returns-in_ok-over_limit-in-TooLong
-returns-in_ok-over_limit-in-TooLong g c = λ words start now good refused.
+returns-in_ok-over_limit-in-TooLong g c = λ start now refused words good.
     told words _ _ Status.OverLimit _ _ (
       shown c.args.command,
       good,

@@ -1,6 +1,6 @@
 use Rattle.std.proofs.Common.{◌∙◌, ap, ◌+◌, ◌*◌}
 use Rattle.hr_script.proofs.Values.{too_large}
-use Rattle.hr_script.specs.Reader.{decimal_value}
+use Rattle.hr_script.specs.Numbers.{decimal_value}
 use Rattle.hr_script.proofs.numbers.value_of.Goals as goal
 
 pub returns-then-value-gt-GREATEST : goal.returns-then-value-gt-GREATEST

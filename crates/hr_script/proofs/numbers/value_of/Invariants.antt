@@ -1,5 +1,5 @@
 use Rattle.std.proofs.Common.{◌≡◌, ◌≤◌, ◌+◌, ◌-◌, ◌*◌, fold, drop}
-use Rattle.hr_script.specs.Reader.{decimal_value}
+use Rattle.hr_script.specs.Numbers.{decimal_value}
 use Rattle.hr_script.proofs.numbers.value_of.Given as goal
 
 -- going on from the value so far gives the whole value

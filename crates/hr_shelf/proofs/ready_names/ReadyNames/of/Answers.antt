@@ -8,13 +8,13 @@ use Rattle.hr_shelf.proofs.ready_names.ReadyNames.of.Goals as goal
 
 pub unwrap-place-requires : goal.unwrap-place-requires
 unwrap-place-requires c =
-    let place = located _ _ _ _ _ c.as_bytes.ensures.value c.deref.ensures.value c.place_of.ensures in
-    let known = named_is c.args.name.now c.self.inside.list.items c.place_of.result place in
+    let place = located _ _ _ _ _ c.as_bytes.ensures.value c.deref.ensures.value c.place_named.ensures in
+    let known = named_is c.args.name.now c.self.inside.list.items c.place_named.result place in
     sym known ∙ ap (list_any (bytes_eq c.args.name.now)) c.self.view_is ∙ any_of_member c.args.self.now c.args.name.now c.requires
 
 pub returns : goal.returns
 returns c =
-    let place = located _ _ _ _ _ c.as_bytes.ensures.value c.deref.ensures.value c.place_of.ensures in
+    let place = located _ _ _ _ _ c.as_bytes.ensures.value c.deref.ensures.value c.place_named.ensures in
     let first = first_of c.args.name.now c.self.inside.list.items c.unwrap-place.result (place ∙ c.unwrap-place.ensures) in
     let named = name_at c.args.name.now c.self.inside.list.items c.unwrap-place.result c.index.result.now first in
     let below = within c.args.name.now c.self.inside.list.items c.unwrap-place.result first in
