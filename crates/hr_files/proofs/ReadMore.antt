@@ -8,7 +8,7 @@ use Rattle.std.proofs.Math.Nat.{le_trans}
 use Rattle.std.proofs.Math.Seq.{take-suc}
 use Rattle.std.specs.FinMap.{get}
 use Rattle.hr_base.specs.Limits.{module_limit}
-use Rattle.hr_shelf.specs.Outside.{Files, IsReady, Reads, Store}
+use Rattle.hr_shelf.specs.Outside.{Files, HasBytes, IsReady, Store}
 use Rattle.hr_files.specs.Read.{AreReady, HasTexts, OnlyReads, project_limit, total}
 use Rattle.hr_files.proofs.Progress.{Progress}
 
@@ -33,7 +33,7 @@ length_one text = omega arith
 total_more : (texts : List (List ℕ)) (text : List ℕ) → total (texts ++ text ∷ []) ≡ total texts + length text
 total_more texts text = sum_by-append length texts (text ∷ []) ∙ ap (λ n. total texts + n) (length_one text)
 
-has_more : (told : Option Files) (names texts : List (List ℕ)) (name text : List ℕ) → HasTexts told names texts → Reads told name text → HasTexts told (names ++ name ∷ []) (texts ++ text ∷ [])
+has_more : (told : Option Files) (names texts : List (List ℕ)) (name text : List ℕ) → HasTexts told names texts → HasBytes told name text → HasTexts told (names ++ name ∷ []) (texts ++ text ∷ [])
 has_more None names texts name text has reads = tt
 has_more (Some files) names texts name text has reads =
     map-append (λ n. get files n) names (name ∷ [])
@@ -48,12 +48,12 @@ pub suc_is : (n : ℕ) → suc n ≡ n + 1
 suc_is n = omega arith
 
 pub read_more : (names : List (List ℕ)) (before now after : Store) (file : ℕ) (texts : List (List ℕ)) (counted : ℕ) (name text : List ℕ)
-    → Progress names before now file texts counted → file < length names → name ≡ get_or names file [] → OnlyReads now after → Reads now.told name text
+    → Progress names before now file texts counted → file < length names → name ≡ get_or names file [] → OnlyReads now after → HasBytes now.told name text
     → length text ≤ module_limit → IsReady after.ready name → counted + length text ≤ project_limit → Progress names before after (file + 1) (texts ++ text ∷ []) (counted + length text)
 read_more names before now after file texts counted name text known within is only reads short ready few =
     let front : take (file + 1) names ≡ take file names ++ name ∷ [] = subst (λ n. take n names ≡ take file names ++ get_or names file [] ∷ []) (suc_is file) (take-suc names file [] within) ∙ ap (λ n. take file names ++ n ∷ []) (sym is) in
     let sums : counted + length text ≡ total (texts ++ text ∷ []) = ap (λ n. n + length text) known.counted ∙ sym (total_more texts text) in
-    let told : Reads before.told name text = subst (λ told. Reads told name text) known.only.told reads in
+    let told : HasBytes before.told name text = subst (λ told. HasBytes told name text) known.only.told reads in
     record {
       only = only_more before now after known.only only;
       ready = subst (AreReady after.ready) (sym front)
@@ -67,12 +67,12 @@ read_more names before now after file texts counted name text known within is on
 
 -- the texts that were read are too long together
 pub read_over : (names : List (List ℕ)) (before now after : Store) (file : ℕ) (texts : List (List ℕ)) (counted : ℕ) (name text : List ℕ)
-    → Progress names before now file texts counted → file < length names → name ≡ get_or names file [] → Reads now.told name text
+    → Progress names before now file texts counted → file < length names → name ≡ get_or names file [] → HasBytes now.told name text
     → project_limit < counted + length text → (read : List (List ℕ)) × HasTexts before.told (take (length read) names) read × (project_limit < total read)
 read_over names before now after file texts counted name text known within is reads many =
     let front : take (file + 1) names ≡ take file names ++ name ∷ [] = subst (λ n. take n names ≡ take file names ++ get_or names file [] ∷ []) (suc_is file) (take-suc names file [] within) ∙ ap (λ n. take file names ++ n ∷ []) (sym is) in
     let sums : counted + length text ≡ total (texts ++ text ∷ []) = ap (λ n. n + length text) known.counted ∙ sym (total_more texts text) in
-    let told : Reads before.told name text = subst (λ told. Reads told name text) known.only.told reads in
+    let told : HasBytes before.told name text = subst (λ told. HasBytes told name text) known.only.told reads in
     let count : length (texts ++ text ∷ []) ≡ file + 1 = length-append texts (text ∷ []) ∙ ap (λ n. n + 1) known.count in (
       texts ++ text ∷ [],
       subst (λ n. HasTexts before.told (take n names) (texts ++ text ∷ [])) (sym count)

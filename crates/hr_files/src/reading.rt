@@ -1,7 +1,7 @@
 ghost use Rattle.std.specs.Prelude.{◌≡◌, ◌≤◌, [], ◌∷◌, ◌++◌, IfOk, IfErr, OnOk, map, length};
 ghost use Rattle.std.specs.String.{string_bytes};
 ghost use Rattle.hr_base.specs.Limits.{module_limit};
-ghost use Rattle.hr_shelf.specs.Outside.{IsReady, Reads};
+ghost use Rattle.hr_shelf.specs.Outside.{HasBytes, IsReady};
 ghost use Rattle.hr_files.specs.declared.reading.Unread.{Unread};
 ghost use Rattle.hr_files.specs.Read as spec;
 ghost use Rattle.hr_files.specs.Read.{AreRead, AreReady, IsUnread, IsUnreadFile, OnlyReads};
@@ -67,7 +67,7 @@ fn read_file<S: Shelf>(
     name: &str,
 ) -> Result<Text, Unread>
     ensures only { OnlyReads (S.store shelf.old) (S.store shelf.new) }
-    ensures text { IfOk result (λ text. Reads (S.store shelf.old).told name.now text) }
+    ensures text { IfOk result (λ text. HasBytes (S.store shelf.old).told name.now text) }
     ensures within { IfOk result (λ text. length text ≤ module_limit) }
     ensures ready { OnOk result (IsReady (S.store shelf.new).ready name.now) }
     ensures cause { IfErr result (IsUnreadFile file name.now (S.store shelf.old) (S.store shelf.new)) }
