@@ -1,8 +1,6 @@
 -- A file more is replaced.
-use Rattle.std.proofs.Common.{◌≡◌, ◌≤◌, ◌<◌, ◌+◌, ℕ, List, [], ◌∷◌, ◌++◌, length, take, drop, get_or, All, Option, Some, None, suc, zero, refl, sym, ap, ◌∙◌, subst, arith}
-use Rattle.std.proofs.lemmas.List.{length-append, length-drop}
-use Rattle.std.proofs.Math.Seq.{take-suc, drop-cons}
-use Rattle.hr_shelf.specs.Outside.{Files, IsReady, StaysReady, Store, replaced}
+use Rattle.std.proofs.Common.{◌≡◌, ◌+◌, ℕ, List, [], ◌∷◌, ◌++◌, take, drop, All, Option, suc, zero, refl, sym, ap, ◌∙◌, subst, arith}
+use Rattle.hr_shelf.specs.Outside.{Files, StaysReady, Store, replaced}
 use Rattle.hr_files.specs.Replaced.{IsReadyChange, after_changes, name_of}
 use Rattle.hr_files.specs.declared.replacing.Change.{Change}
 use Rattle.hr_files.proofs.Progress.{Replacing}

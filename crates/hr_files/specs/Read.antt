@@ -1,5 +1,5 @@
 -- Files that are read in the order of their names, each within a limit, and all together within another one.
-use Rattle.std.specs.Prelude.{◌≡◌, ℕ, ◌+◌, ◌≤◌, ◌<◌, List, [], ◌∷◌, length, map, take, All, Option, Some, None, IfSome, ◌⊎◌, Contains, slice_index_or}
+use Rattle.std.specs.Prelude.{◌≡◌, ℕ, ◌≤◌, ◌<◌, List, [], length, map, take, All, Option, Some, None, IfSome, ◌⊎◌, slice_index_or}
 use Rattle.std.specs.List.{sum_by}
 use Rattle.std.specs.FinMap.{get}
 use Rattle.hr_base.specs.Limits.{module_limit}

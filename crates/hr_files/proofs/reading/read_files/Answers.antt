@@ -1,9 +1,8 @@
-use Rattle.std.proofs.Common.{◌≡◌, ◌≤◌, ◌<◌, ◌+◌, ℕ, List, [], ◌∷◌, ◌++◌, length, map, get_or, refl, sym, ap, ◌∙◌, subst}
+use Rattle.std.proofs.Common.{◌≡◌, ◌≤◌, ◌<◌, ◌+◌, [], length, map, get_or, sym, ◌∙◌, subst}
 use Rattle.std.proofs.lemmas.List.{length-map}
 use Rattle.std.specs.String.{string_bytes}
 use Rattle.hr_files.specs.Read.{project_limit}
 use Rattle.hr_files.proofs.ReadMore.{named, only_more, read_all, read_more, read_over}
-use Rattle.hr_files.proofs.Progress.{Progress}
 use Rattle.hr_files.proofs.reading.read_files.Goals as goal
 
 pub returns-in_err-keep-clause-only : goal.returns-in_err-keep-clause-only

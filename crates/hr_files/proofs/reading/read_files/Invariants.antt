@@ -1,4 +1,4 @@
-use Rattle.std.proofs.Common.{◌≡◌, map, take}
+use Rattle.std.proofs.Common.{map}
 use Rattle.std.specs.String.{string_bytes}
 use Rattle.hr_files.proofs.Progress.{Progress}
 use Rattle.hr_files.proofs.reading.read_files.Given as goal

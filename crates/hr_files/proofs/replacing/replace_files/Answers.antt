@@ -1,8 +1,8 @@
-use Rattle.std.proofs.Common.{◌≡◌, ◌<◌, ap, sym, ◌∙◌, map, List, [], ℕ, length, get_or, subst}
+use Rattle.std.proofs.Common.{◌≡◌, ◌<◌, sym, ◌∙◌, map, [], length, get_or, subst}
 use Rattle.std.proofs.lemmas.List.{length-map}
 use Rattle.std.specs.String.{string_bytes}
-use Rattle.hr_shelf.specs.Outside.{IsReady, replaced}
-use Rattle.hr_files.specs.Replaced.{IsReadyChange, name_of}
+use Rattle.hr_shelf.specs.Outside.{IsReady}
+use Rattle.hr_files.specs.Replaced.{IsReadyChange}
 use Rattle.hr_files.proofs.ReadMore.{named}
 use Rattle.hr_files.proofs.Progress.{Replacing}
 use Rattle.hr_files.proofs.ReplaceMore.{next_ready, replace_more}
