@@ -16,15 +16,20 @@ abbrev pub are_blanks : List ℕ → Bool
 are_blanks [] = true
 are_blanks (b ∷ bytes) = if is_blank b then are_blanks bytes else false
 
+-- A byte that ends a line (10, 13, 12) or may end a comment (125, a brace). Blanks and comments have blanks alone behind
+-- the last one, and those beyond ASCII are blanks too.
+abbrev pub is_end : ℕ → Bool
+is_end b = ((b == 10 || b == 13) || b == 12) || b == 125
+
 -- where the front ends, behind one byte more at the place
 abbrev pub front_behind : ℕ → ℕ → ℕ → ℕ
-front_behind front place b = if is_blank b then front else place + 1
+front_behind front place b = if is_end b then place + 1 else front
 
 abbrev pub front_from : ℕ → ℕ → List ℕ → ℕ
 front_from front place [] = front
 front_from front place (b ∷ bytes) = front_from (front_behind front place b) (place + 1) bytes
 
--- the number of bytes before the blanks that the bytes end with: behind the last byte that is no blank
+-- the number of bytes before the blanks that blanks and comments end with
 abbrev pub front_len : List ℕ → ℕ
 front_len bytes = front_from 0 0 bytes
 

@@ -1,6 +1,6 @@
 //! Whether blanks and comments stay.
 ghost use Rattle.std.specs.Prelude.{◌≡◌, ◌≤◌, ◌<◌, length};
-ghost use Rattle.hr_step.specs.Trivia.{are_blanks, behind_newline, front_behind, does_tail_stay, does_trivia_stay, front_len, is_blank, is_number, is_one_blank_more, may_be_indented, may_end_for, may_stand_for, number_behind, stays_at, stays_here};
+ghost use Rattle.hr_step.specs.Trivia.{are_blanks, behind_newline, front_behind, does_tail_stay, does_trivia_stay, front_len, is_blank, is_end, is_number, is_one_blank_more, may_be_indented, may_end_for, may_stand_for, number_behind, stays_at, stays_here};
 
 use crate::kept::kept_number;
 use hr_base::{Item, Items, Text};
@@ -133,7 +133,7 @@ fn may_be_indented(old: &[u8], new: &[u8]) -> bool
     begin == front && are_blanks(behind_newline(rest))
 }
 
-/// The number of bytes before the blanks that the bytes end with.
+/// The number of bytes before the blanks that blanks and comments end with.
 fn front_len(bytes: &[u8]) -> usize
     ensures value { result ≡ front_len bytes.now }
     ensures within { result ≤ length bytes.now }
@@ -150,7 +150,14 @@ fn front_behind(front: usize, place: usize, byte: u8) -> usize
     requires { place < usize.MAX }
     ensures { result ≡ front_behind front place byte }
 {
-    if is_blank(byte) { front } else { place + 1 }
+    if is_end(byte) { place + 1 } else { front }
+}
+
+/// Whether the byte ends a line or may end a comment: what is behind the last one is blanks, those beyond ASCII too.
+fn is_end(byte: u8) -> bool
+    ensures { result ≡ is_end byte }
+{
+    byte == b'\n' || byte == b'\r' || byte == 0x0C || byte == b'}'
 }
 
 fn are_blanks(bytes: &[u8]) -> bool
