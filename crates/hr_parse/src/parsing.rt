@@ -4,7 +4,7 @@ use hr_base::Items;
 use hr_layout::Cursor;
 use hr_parse_declaration::header;
 use hr_parse_expression::{Blocked, declarations};
-use hr_parse_lexeme::{Held, Mark, Notes, ParseError, Stop, is_next, refusal};
+use hr_parse_lexeme::{Held, Mark, Notes, ParseError, Stop, is_next, nest, refusal};
 use hr_tree::{Block, Decl, Header, Module};
 use std::alloc::Global;
 
@@ -16,7 +16,8 @@ struct Whole {
 }
 
 /// The tree of the items.
-pub fn parse(alloc: Global, items: Items) -> Result<Module, ParseError> {
+pub fn parse(alloc: Global, items: Items) -> Result<Module, ParseError>
+{
     let Items { list, tail } = items;
     let mut cursor = match Cursor::new(alloc, list) {
         Ok(cursor) => cursor,
@@ -38,12 +39,14 @@ pub fn parse(alloc: Global, items: Items) -> Result<Module, ParseError> {
 }
 
 /// The header, if the text begins with one, and the body, behind which nothing stands.
-fn read(alloc: Global, cursor: &mut Cursor, notes: &mut Notes) -> Result<Whole, Stop> {
+fn read(alloc: Global, cursor: &mut Cursor, notes: &mut Notes) -> Result<Whole, Stop>
+{
     let header = maybe_header(alloc, cursor, notes)?;
     let body = declarations(alloc, cursor, notes, 0, true)?;
     if cursor.peek().is_some() {
         return Err(Stop::Syntax);
     }
+    nest(0, body.height)?;
     Ok(Whole { header, body })
 }
 
@@ -51,7 +54,8 @@ fn maybe_header(
     alloc: Global,
     cursor: &mut Cursor,
     notes: &mut Notes,
-) -> Result<Held<Option<Header>>, Stop> {
+) -> Result<Held<Option<Header>>, Stop>
+{
     if !is_next(cursor, Mark::Module) {
         return Ok(Held::new(None));
     }

@@ -3,7 +3,7 @@ ghost use Rattle.std.specs.Prelude.{◌≤◌};
 
 use hr_layout::Cursor;
 use hr_parse_declaration::{Stated, fixity, import, signature, type_declaration};
-use hr_parse_lexeme::{Kind, Notes, Stop, kind_ahead, nest};
+use hr_parse_lexeme::{Held, Kind, Notes, Stop, kind_ahead, nest};
 use hr_parse_nodes::bodies;
 use hr_parse_parts::{Left, Position, Side, begins_declaration};
 use hr_parse_pattern::{Front, beginning, below, variable_pattern};
@@ -88,7 +88,7 @@ fn valued(alloc: Global, cursor: &mut Cursor, notes: &mut Notes, depth: u32) -> 
     requires { depth ≤ 256 }
 {
     match beginning(alloc, cursor, notes, depth)? {
-        Front::Variable(bound) => behind_variable(alloc, cursor, depth, bound),
+        Front::Variable(bound) => behind_variable(alloc, cursor, depth, Held::new(bound)),
         Front::Pattern(part) => Ok(Found::Left(Left::Pattern(part))),
         Front::Left(left, height) => Ok(Found::Left(Left::Side(left, height))),
     }
@@ -99,18 +99,18 @@ fn behind_variable(
     alloc: Global,
     cursor: &mut Cursor,
     depth: u32,
-    bound: Variable,
+    bound: Held<Variable>,
 ) -> Result<Found, Stop>
     requires { depth ≤ 256 }
 {
     match kind_ahead(cursor) {
         Kind::Comma | Kind::DoubleColon => {
-            let stated = signature(alloc, cursor, depth, bound)?;
+            let stated = signature(alloc, cursor, depth, bound.take())?;
             Ok(Found::Whole(stated))
         }
         Kind::Equals | Kind::Bar => {
             nest(depth, 1)?;
-            let part = variable_pattern(alloc, bound)?;
+            let part = variable_pattern(alloc, bound.take())?;
             Ok(Found::Left(Left::Pattern(part)))
         }
         _ => Err(Stop::Syntax),

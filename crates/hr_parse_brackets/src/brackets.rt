@@ -31,7 +31,9 @@ pub fn parenthesized(
     may_bind: bool,
 ) -> Result<Step, Stop> {
     match parenthesis(alloc, cursor)? {
-        Opening::Constructor(named) => constructor(alloc, cursor, notes, named, may_bind),
+        Opening::Constructor(named) => {
+            constructor(alloc, cursor, notes, Held::new(named), may_bind)
+        },
         Opening::Open(left) => opened(alloc, cursor, notes, depth, left, may_bind),
     }
 }
@@ -48,7 +50,7 @@ fn opened(
     match kind {
         Kind::Backquote => {
             let operator = operator(cursor)?;
-            section(left, operator, depth)
+            section(left, Held::new(operator), depth)
         }
         Kind::Minus => behind_minus(alloc, cursor, notes, depth, left, may_bind),
         _ if is_operator_symbol(kind) => {
@@ -94,7 +96,7 @@ fn behind_symbol(
 ) -> Result<Step, Stop> {
     let operator = expect_kind(cursor, kind)?;
     match accept(cursor, Mark::RightParen) {
-        None => section(left, Operator::Symbol(operator), depth),
+        None => section(left, Held::new(Operator::Symbol(operator)), depth),
         Some(right) => {
             let name = Parenthesized {
                 left,
@@ -123,8 +125,8 @@ fn first(alloc: Global, depth: u32, left: Item, minus: Option<Item>, may_bind: b
 }
 
 /// The operand of a right section is read. The minus has none.
-fn section(left: Item, operator: Operator, depth: u32) -> Result<Step, Stop> {
-    if is_minus(&operator) {
+fn section(left: Item, operator: Held<Operator>, depth: u32) -> Result<Step, Stop> {
+    if is_minus(operator.get()) {
         return Err(Stop::Syntax);
     }
     Ok(wait(
@@ -149,7 +151,9 @@ pub fn squared(
     may_bind: bool,
 ) -> Result<Step, Stop> {
     match square(cursor)? {
-        Opening::Constructor(named) => constructor(alloc, cursor, notes, named, may_bind),
+        Opening::Constructor(named) => {
+            constructor(alloc, cursor, notes, Held::new(named), may_bind)
+        },
         Opening::Open(left) => {
             let place = Place::whole(below(depth)).binding(may_bind);
             Ok(wait(
@@ -197,7 +201,7 @@ fn behind_section(
     cursor: &mut Cursor,
     notes: &mut Notes,
     left: Item,
-    operator: Operator,
+    operator: Held<Operator>,
     value: Held<Value>,
 ) -> Result<Step, Stop> {
     let read = expression(value)?;
@@ -267,7 +271,7 @@ fn with_operator(cursor: &mut Cursor, read: Read) -> Result<Read, Stop> {
             height,
             ending,
             next,
-            operator: Some(operator),
+            operator: Some(Held::new(operator)),
             twin: None,
         });
     }

@@ -2,7 +2,7 @@
 
 use hr_base::Item;
 use hr_layout::Cursor;
-use hr_parse_lexeme::{Kind, Mark, Notes, Stop, is_next};
+use hr_parse_lexeme::{Held, Kind, Mark, Notes, Stop, is_next};
 use hr_parse_nodes::nodes::node;
 use hr_parse_parts::{
     APPLIED, Step, Twin, bound_twin, done_expression, done_pattern, named_twin, operand,
@@ -17,16 +17,16 @@ pub fn variable(
     cursor: &mut Cursor,
     notes: &mut Notes,
     depth: u32,
-    name: Variable,
+    name: Held<Variable>,
     may_bind: bool,
 ) -> Result<Step, Stop> {
     if may_bind && is_next(cursor, Mark::At) {
-        let part = bound_at(alloc, cursor, notes, depth, name)?;
+        let part = bound_at(alloc, cursor, notes, depth, name.take())?;
         notes.whole(cursor.pos());
         return Ok(done_pattern(part));
     }
-    let twin = bound_twin(alloc, &name, may_bind)?;
-    let exp = node(alloc, Exp::Variable(name), 0)?;
+    let twin = bound_twin(alloc, name.get(), may_bind)?;
+    let exp = node(alloc, Exp::Variable(name.take()), 0)?;
     Ok(whole(cursor, notes, exp, twin))
 }
 
@@ -45,11 +45,11 @@ pub fn constructor(
     alloc: Global,
     cursor: &Cursor,
     notes: &mut Notes,
-    named: Constructor,
+    named: Held<Constructor>,
     may_bind: bool,
 ) -> Result<Step, Stop> {
-    let twin = named_twin(&named, may_bind)?;
-    let exp = node(alloc, Exp::Constructor(named), 0)?;
+    let twin = named_twin(named.get(), may_bind)?;
+    let exp = node(alloc, Exp::Constructor(named.take()), 0)?;
     Ok(whole(cursor, notes, exp, twin))
 }
 
@@ -79,25 +79,30 @@ pub(crate) fn symbol(
     } = name;
     match kind {
         Kind::Minus => {
-            let name = Variable::Symbol(left, symbol, right);
+            let name = Held::new(Variable::Symbol(left, symbol, right));
             variable(alloc, cursor, notes, depth, name, may_bind)
         }
         Kind::VariableSymbol => {
-            let name = Variable::Symbol(left, symbol, right);
+            let name = Held::new(Variable::Symbol(left, symbol, right));
             variable(alloc, cursor, notes, depth, name, may_bind)
         }
         Kind::QualifiedVariableSymbol => {
             used(alloc, cursor, notes, Variable::Symbol(left, symbol, right))
         }
         _ => {
-            let named = Constructor::Symbol(left, symbol, right);
+            let named = Held::new(Constructor::Symbol(left, symbol, right));
             constructor(alloc, cursor, notes, named, may_bind)
         }
     }
 }
 
 /// An atom that is whole.
-pub fn whole(cursor: &Cursor, notes: &mut Notes, part: Part<Exp>, twin: Option<Twin>) -> Step {
+pub fn whole(
+    cursor: &Cursor,
+    notes: &mut Notes,
+    part: Part<Exp>,
+    twin: Option<Held<Twin>>,
+) -> Step {
     notes.whole(cursor.pos());
     done_expression(operand(part, APPLIED, twin))
 }

@@ -14,9 +14,7 @@ use hr_parse_operands::{
     atom, begin_sequence, behind_argument, behind_form, behind_head, behind_operand, body_of_let,
     operand,
 };
-use hr_parse_parts::{
-    Blocked, Bracket, Form, Frame, Goal, Read, Sequence, Side, Step, Value, declarations_of, go,
-};
+use hr_parse_parts::{Blocked, Frame, Goal, Step, Value, declarations_of, go};
 use hr_tree::Decl;
 use std::alloc::Global;
 
@@ -28,19 +26,46 @@ fn read(alloc: Global, cursor: &mut Cursor, notes: &mut Notes, goal: Goal) -> Re
     let mut stack = Stack::new(alloc);
     let mut step = go(goal);
     for _ in 0..STEPS {
-        step = match step {
-            Step::Read(goal) => begin(alloc, cursor, notes, goal.take())?,
-            Step::Wait(frame, goal) => {
-                stack.push(frame)?;
-                Step::Read(goal)
-            }
-            Step::Done(value) => match stack.pop() {
-                None => return Ok(value.take()),
-                Some(frame) => behind(alloc, cursor, notes, frame.take(), value)?,
-            },
-        };
+        match turn(alloc, cursor, notes, &mut stack, step)? {
+            Turn::End(value) => return Ok(value.take()),
+            Turn::Step(next) => step = next,
+        }
     }
     Err(Stop::Syntax)
+}
+
+/// What comes of a step: the next one, or what was read in the end.
+#[derive(Drop)]
+enum Turn {
+    Step(Step),
+    End(Held<Value>),
+}
+
+/// What a step leads to, with the frames that wait.
+fn turn(
+    alloc: Global,
+    cursor: &mut Cursor,
+    notes: &mut Notes,
+    stack: &mut Stack,
+    step: Step,
+) -> Result<Turn, Stop> {
+    match step {
+        Step::Read(goal) => {
+            let step = begin(alloc, cursor, notes, goal.take())?;
+            Ok(Turn::Step(step))
+        }
+        Step::Wait(frame, goal) => {
+            stack.push(frame)?;
+            Ok(Turn::Step(Step::Read(goal)))
+        }
+        Step::Done(value) => match stack.pop() {
+            None => Ok(Turn::End(value)),
+            Some(frame) => {
+                let step = behind(alloc, cursor, notes, frame.take(), value)?;
+                Ok(Turn::Step(step))
+            }
+        },
+    }
 }
 
 /// Begins what is read next.
@@ -67,7 +92,7 @@ fn behind(
     value: Held<Value>,
 ) -> Result<Step, Stop> {
     match frame {
-        Frame::Operand(sequence) => behind_operand(alloc, cursor, notes, sequence.take(), value),
+        Frame::Operand(sequence) => behind_operand(alloc, cursor, notes, sequence, value),
         Frame::Head(depth) => behind_head(alloc, cursor, depth, value),
         Frame::Argument(arguments) => behind_argument(
             alloc,

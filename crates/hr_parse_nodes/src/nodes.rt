@@ -1,7 +1,7 @@
 //! The nodes of expressions, with their heights. Each is made and boxed in one step.
 
 use hr_base::Item;
-use hr_parse_lexeme::{Measured, Stop, nest};
+use hr_parse_lexeme::{Held, Measured, Stop, nest};
 use hr_parse_parts::{Blocked, Comprehension, Condition, Dots, LetBody, Read, Tail, open};
 use hr_parse_pattern::{Many, Operands, Part, Parts};
 use hr_tree::{Alt, Block, Exp, Operator, Pat, Ty};
@@ -27,24 +27,28 @@ pub fn left_section(
     alloc: Global,
     left: Item,
     part: Part<Exp>,
-    operator: Operator,
+    operator: Held<Operator>,
     right: Item,
 ) -> Result<Part<Exp>, Stop> {
     let Part { tree, height } = part;
-    node(alloc, Exp::LeftSection(left, tree, operator, right), height)
+    node(
+        alloc,
+        Exp::LeftSection(left, tree, operator.take(), right),
+        height,
+    )
 }
 
 pub fn right_section(
     alloc: Global,
     left: Item,
-    operator: Operator,
+    operator: Held<Operator>,
     part: Part<Exp>,
     right: Item,
 ) -> Result<Part<Exp>, Stop> {
     let Part { tree, height } = part;
     node(
         alloc,
-        Exp::RightSection(left, operator, tree, right),
+        Exp::RightSection(left, operator.take(), tree, right),
         height,
     )
 }

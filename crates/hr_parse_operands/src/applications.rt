@@ -5,9 +5,9 @@ use hr_layout::Cursor;
 use hr_parse_lexeme::{Held, Kind, Notes, Stop, kind_ahead, nest};
 use hr_parse_nodes::nodes;
 use hr_parse_parts::{
-    APPLIED, Applied, Arguments, Frame, Goal, Inside, Mixed, Place, Read, Step, Twin, Value, alone,
+    APPLIED, Applied, Arguments, Frame, Goal, Inside, Mixed, Place, Read, Step, Value, alone,
     applied_of, begins_atom, begins_pattern_alone, done_expression, done_pattern, head_of,
-    mixed_of, one_more, operand as operand_read, refused, wait,
+    is_named, mixed_of, one_more, operand as operand_read, refused, wait,
 };
 use hr_parse_pattern::{Many, Part, applied, arguments as more_patterns, below};
 use hr_tree::Pat;
@@ -47,7 +47,7 @@ pub fn behind_head(
 }
 
 fn behind_atom(alloc: Global, cursor: &Cursor, depth: u32, read: Read) -> Result<Step, Stop> {
-    let may_bind = matches!(read.twin, Some(Twin::Named(_)));
+    let may_bind = is_named(&read.twin);
     if !begins_argument(cursor, may_bind) {
         return Ok(done_expression(read));
     }
@@ -127,7 +127,7 @@ fn patterns(
     patterns.push(part)?;
     let patterns = more_patterns(alloc, cursor, notes, below(depth), patterns)?;
     nest(1, patterns.height)?;
-    let part = applied(alloc, constructor, patterns)?;
+    let part = applied(alloc, constructor.take(), patterns)?;
     Ok(done_pattern(part))
 }
 

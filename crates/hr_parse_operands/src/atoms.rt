@@ -2,7 +2,7 @@
 
 use hr_layout::Cursor;
 use hr_parse_brackets::{constructor, parenthesized, squared, used, variable, whole};
-use hr_parse_lexeme::{Kind, Notes, Sort, Stop, expect_sort, kind_ahead, nest};
+use hr_parse_lexeme::{Held, Kind, Notes, Sort, Stop, expect_sort, kind_ahead, nest};
 use hr_parse_nodes::nodes::node;
 use hr_parse_parts::{
     Step, begins_atom, begins_pattern_alone, done_pattern, literal_twin, number_twin,
@@ -72,7 +72,14 @@ fn named(
     match kind_ahead(cursor) {
         Kind::Variable => {
             let name = expect_sort(cursor, Sort::Variable)?;
-            variable(alloc, cursor, notes, depth, Variable::Name(name), may_bind)
+            variable(
+                alloc,
+                cursor,
+                notes,
+                depth,
+                Held::new(Variable::Name(name)),
+                may_bind,
+            )
         }
         Kind::QualifiedVariable => {
             let name = expect_sort(cursor, Sort::NamedVariable)?;
@@ -80,7 +87,13 @@ fn named(
         }
         _ => {
             let name = expect_sort(cursor, Sort::NamedConstructor)?;
-            constructor(alloc, cursor, notes, Constructor::Name(name), may_bind)
+            constructor(
+                alloc,
+                cursor,
+                notes,
+                Held::new(Constructor::Name(name)),
+                may_bind,
+            )
         }
     }
 }

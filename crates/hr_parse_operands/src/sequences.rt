@@ -61,12 +61,12 @@ pub fn behind_operand(
     alloc: Global,
     cursor: &mut Cursor,
     notes: &mut Notes,
-    sequence: Sequence,
+    sequence: Held<Sequence>,
     value: Held<Value>,
 ) -> Result<Step, Stop> {
     match mixed_of(value)? {
-        Mixed::Expression(read) => behind_expression(alloc, cursor, notes, sequence, read.take()),
-        Mixed::Pattern(part) => pattern(alloc, cursor, notes, sequence, part),
+        Mixed::Expression(read) => behind_expression(alloc, cursor, notes, sequence, read),
+        Mixed::Pattern(part) => pattern(alloc, cursor, notes, sequence.take(), part),
     }
 }
 
@@ -98,14 +98,14 @@ fn behind_expression(
     alloc: Global,
     cursor: &mut Cursor,
     notes: &mut Notes,
-    sequence: Sequence,
-    read: Read,
+    sequence: Held<Sequence>,
+    read: Held<Read>,
 ) -> Result<Step, Stop> {
-    if goes_on(&read) && begins_operator(kind_ahead(cursor)) {
+    if goes_on(read.get()) && begins_operator(kind_ahead(cursor)) {
         return joined(alloc, cursor, sequence, read);
     }
-    let place = sequence.place;
-    let read = ended(alloc, sequence, read)?;
+    let place = sequence.get().place;
+    let read = ended(alloc, sequence.take(), read.take())?;
     annotated(alloc, cursor, notes, place, read)
 }
 
@@ -114,23 +114,23 @@ fn behind_expression(
 fn joined(
     alloc: Global,
     cursor: &mut Cursor,
-    sequence: Sequence,
-    last: Read,
+    sequence: Held<Sequence>,
+    last: Held<Read>,
 ) -> Result<Step, Stop> {
-    let place = sequence.place;
+    let place = sequence.get().place;
     if !place.has_section {
-        nest(below(place.depth), last.height)?;
+        nest(below(place.depth), last.get().height)?;
     }
-    let operator = operator(cursor)?;
+    let operator = Held::new(operator(cursor)?);
     if place.has_section && is_next(cursor, Mark::RightParen) {
-        let read = sectioned(alloc, sequence, last, operator)?;
+        let read = sectioned(alloc, sequence.take(), last.take(), operator)?;
         return Ok(done_expression(read));
     }
-    let may_bind = sequence.twins.is_some()
-        && last.twin.is_some()
-        && is_constructor_operator(&operator);
-    next_begins(cursor, place, last.height, may_bind)?;
-    one_more(alloc, cursor, sequence, last, operator)
+    let may_bind = sequence.get().twins.is_some()
+        && last.get().twin.is_some()
+        && is_constructor_operator(operator.get());
+    next_begins(cursor, place, last.get().height, may_bind)?;
+    one_more(alloc, cursor, sequence.take(), last.take(), operator)
 }
 
 /// The next operand begins, so the one before, with so many levels, stands in a sequence.
@@ -149,7 +149,7 @@ fn one_more(
     cursor: &mut Cursor,
     sequence: Sequence,
     last: Read,
-    operator: Operator,
+    operator: Held<Operator>,
 ) -> Result<Step, Stop> {
     let Sequence {
         place,
@@ -158,8 +158,8 @@ fn one_more(
         minus,
     } = sequence;
     let Inside { part, twin } = followed(last)?;
-    let twins = more_twins(alloc, twins, minus.as_ref(), twin, &operator)?;
-    operands.push(minus, part, Some(operator))?;
+    let twins = more_twins(alloc, twins, minus.as_ref(), twin, operator.get())?;
+    operands.push(minus, part, Some(operator.take()))?;
     Ok(next_operand(cursor, place, operands, twins))
 }
 
@@ -168,7 +168,7 @@ fn more_twins(
     alloc: Global,
     twins: Option<Operands<Pat>>,
     minus: Option<&Item>,
-    twin: Option<Twin>,
+    twin: Option<Held<Twin>>,
     operator: &Operator,
 ) -> Result<Option<Operands<Pat>>, AllocError> {
     if is_constructor_operator(operator) {
@@ -242,7 +242,7 @@ fn sectioned(
     alloc: Global,
     sequence: Sequence,
     last: Read,
-    operator: Operator,
+    operator: Held<Operator>,
 ) -> Result<Read, Stop> {
     let Sequence {
         operands,

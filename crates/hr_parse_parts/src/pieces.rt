@@ -149,11 +149,18 @@ fn column(cursor: &Cursor) -> u32 {
 
 /// Takes a `;`, wherever it stands: in a block without braces it begins a piece where the block doesn't end.
 fn semicolon(cursor: &mut Cursor) -> Option<Item> {
-    let is_semicolon = match cursor.peek() {
-        Some(lexeme) => Mark::Semicolon.is(lexeme),
+    if is_semicolon(cursor) {
+        cursor.take()
+    } else {
+        None
+    }
+}
+
+fn is_semicolon(cursor: &Cursor) -> bool {
+    match cursor.peek() {
         None => false,
-    };
-    if is_semicolon { cursor.take() } else { None }
+        Some(lexeme) => Mark::Semicolon.is(lexeme),
+    }
 }
 
 fn is_right_brace(cursor: &Cursor) -> bool {

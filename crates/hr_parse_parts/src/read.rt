@@ -2,7 +2,7 @@
 
 use crate::twins::Twin;
 use hr_base::Ending;
-use hr_parse_lexeme::Stop;
+use hr_parse_lexeme::{Held, Stop};
 use hr_parse_pattern::Part;
 use hr_tree::{Exp, Operator};
 use sqlite_items::Boxed;
@@ -26,9 +26,9 @@ pub struct Read {
     pub ending: Ending,
     pub next: Next,
     /// The operator of a left section behind it, which was taken.
-    pub operator: Option<Operator>,
+    pub operator: Option<Held<Operator>>,
     /// The pattern that has the same lexemes, where one may stand.
-    pub twin: Option<Twin>,
+    pub twin: Option<Held<Twin>>,
 }
 
 /// Ends in an atom.
@@ -50,7 +50,7 @@ pub const ANNOTATED: Ending = Ending::Annotated {
 };
 
 /// An operand that an operator may follow.
-pub fn operand(part: Part<Exp>, ending: Ending, twin: Option<Twin>) -> Read {
+pub fn operand(part: Part<Exp>, ending: Ending, twin: Option<Held<Twin>>) -> Read {
     let Part { tree, height } = part;
     Read {
         tree,
@@ -80,7 +80,7 @@ pub fn open(part: Part<Exp>, tail: Tail) -> Read {
 #[derive(Drop)]
 pub struct Tail {
     pub ending: Ending,
-    pub operator: Option<Operator>,
+    pub operator: Option<Held<Operator>>,
 }
 
 /// The tree of an expression behind which no operator was taken.
@@ -101,7 +101,7 @@ pub fn part(read: Read) -> Result<Part<Exp>, Stop> {
 #[derive(Drop)]
 pub struct Inside {
     pub part: Part<Exp>,
-    pub twin: Option<Twin>,
+    pub twin: Option<Held<Twin>>,
 }
 
 pub fn alone(read: Read) -> Result<Inside, Stop> {

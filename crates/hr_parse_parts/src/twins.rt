@@ -2,7 +2,7 @@
 //! beginning, is read once, and both are built, until a lexeme comes that only one of them can go on with.
 
 use hr_base::Item;
-use hr_parse_lexeme::{Stop, nest};
+use hr_parse_lexeme::{Held, Stop, nest};
 use hr_parse_pattern::{Many, Operands, Part, Parts, applied, group, infix, leaf, list, tuple};
 use hr_tree::{Constructor, Operator, Pat, Variable};
 use std::alloc::{AllocError, Global};
@@ -10,7 +10,7 @@ use std::alloc::{AllocError, Global};
 /// A pattern, or a constructor that arguments may follow.
 #[derive(Drop)]
 pub enum Twin {
-    Named(Constructor),
+    Named(Held<Constructor>),
     /// An integer, which a minus may stand before.
     Number(Item),
     Pattern(Part<Pat>),
@@ -19,15 +19,15 @@ pub enum Twin {
 /// A constructor and the patterns behind it.
 #[derive(Drop)]
 pub struct Applied {
-    pub constructor: Constructor,
+    pub constructor: Held<Constructor>,
     pub patterns: Many<Pat>,
 }
 
 /// The pattern, of which nothing more is read.
-pub fn pattern_of(alloc: Global, twin: Twin) -> Result<Part<Pat>, AllocError> {
-    match twin {
+pub fn pattern_of(alloc: Global, twin: Held<Twin>) -> Result<Part<Pat>, AllocError> {
+    match twin.take() {
         Twin::Named(named) => {
-            let part = leaf(alloc, Pat::Constructor(named))?;
+            let part = leaf(alloc, Pat::Constructor(named.take()))?;
             Ok(part)
         }
         Twin::Number(number) => {
@@ -42,13 +42,13 @@ pub fn pattern_of(alloc: Global, twin: Twin) -> Result<Part<Pat>, AllocError> {
 fn operand_of(
     alloc: Global,
     minus: Option<&Item>,
-    twin: Twin,
+    twin: Held<Twin>,
 ) -> Result<Option<Part<Pat>>, AllocError> {
     let Some(minus) = minus else {
         let part = pattern_of(alloc, twin)?;
         return Ok(Some(part));
     };
-    match twin {
+    match twin.take() {
         Twin::Number(number) => {
             let minus = minus.clone()?;
             let part = leaf(alloc, Pat::Negative(minus, number))?;
@@ -58,14 +58,25 @@ fn operand_of(
     }
 }
 
-/// The application to patterns of what may be a constructor.
-pub fn head_of(alloc: Global, twin: Option<Twin>) -> Option<Applied> {
+/// Whether it is a constructor, which arguments may follow.
+pub fn is_named(twin: &Option<Held<Twin>>) -> bool {
     match twin {
-        Some(Twin::Named(constructor)) => Some(Applied {
-            constructor,
-            patterns: Many::new(alloc),
-        }),
-        _ => None,
+        None => false,
+        Some(twin) => matches!(twin.get(), Twin::Named(_)),
+    }
+}
+
+/// The application to patterns of what may be a constructor.
+pub fn head_of(alloc: Global, twin: Option<Held<Twin>>) -> Option<Applied> {
+    match twin {
+        None => None,
+        Some(twin) => match twin.take() {
+            Twin::Named(constructor) => Some(Applied {
+                constructor,
+                patterns: Many::new(alloc),
+            }),
+            _ => None,
+        },
     }
 }
 
@@ -73,7 +84,7 @@ pub fn head_of(alloc: Global, twin: Option<Twin>) -> Option<Applied> {
 pub fn one_more(
     alloc: Global,
     applied: Option<Applied>,
-    twin: Option<Twin>,
+    twin: Option<Held<Twin>>,
 ) -> Result<Option<Applied>, AllocError> {
     let Some(applied) = applied else {
         return Ok(None);
@@ -93,7 +104,7 @@ pub fn one_more(
     }))
 }
 
-pub fn applied_of(alloc: Global, head: Option<Applied>) -> Result<Option<Twin>, Stop> {
+pub fn applied_of(alloc: Global, head: Option<Applied>) -> Result<Option<Held<Twin>>, Stop> {
     let Some(head) = head else {
         return Ok(None);
     };
@@ -102,8 +113,8 @@ pub fn applied_of(alloc: Global, head: Option<Applied>) -> Result<Option<Twin>, 
         patterns,
     } = head;
     nest(1, patterns.height)?;
-    let part = applied(alloc, constructor, patterns)?;
-    Ok(Some(Twin::Pattern(part)))
+    let part = applied(alloc, constructor.take(), patterns)?;
+    Ok(Some(Held::new(Twin::Pattern(part))))
 }
 
 /// No parts yet, where patterns may stand.
@@ -119,7 +130,7 @@ pub fn no_parts(alloc: Global, may_bind: bool) -> Option<Parts<Pat>> {
 pub fn one_part_more(
     alloc: Global,
     parts: Option<Parts<Pat>>,
-    twin: Option<Twin>,
+    twin: Option<Held<Twin>>,
     comma: &Item,
 ) -> Result<Option<Parts<Pat>>, AllocError> {
     let Some(mut parts) = parts else {
@@ -137,9 +148,9 @@ pub fn one_part_more(
 pub fn group_of(
     alloc: Global,
     left: &Item,
-    twin: Option<Twin>,
+    twin: Option<Held<Twin>>,
     right: &Item,
-) -> Result<Option<Twin>, Stop> {
+) -> Result<Option<Held<Twin>>, Stop> {
     let Some(twin) = twin else {
         return Ok(None);
     };
@@ -148,7 +159,7 @@ pub fn group_of(
     let left = left.clone()?;
     let right = right.clone()?;
     let part = group(alloc, left, part, right)?;
-    Ok(Some(Twin::Pattern(part)))
+    Ok(Some(Held::new(Twin::Pattern(part))))
 }
 
 /// The tuple with its last part.
@@ -156,9 +167,9 @@ pub fn tuple_of(
     alloc: Global,
     left: &Item,
     parts: Option<Parts<Pat>>,
-    twin: Option<Twin>,
+    twin: Option<Held<Twin>>,
     right: &Item,
-) -> Result<Option<Twin>, Stop> {
+) -> Result<Option<Held<Twin>>, Stop> {
     let Some(mut parts) = parts else {
         return Ok(None);
     };
@@ -171,7 +182,7 @@ pub fn tuple_of(
     let left = left.clone()?;
     let right = right.clone()?;
     let part = tuple(alloc, left, parts, right)?;
-    Ok(Some(Twin::Pattern(part)))
+    Ok(Some(Held::new(Twin::Pattern(part))))
 }
 
 /// The list with its last part.
@@ -179,9 +190,9 @@ pub fn list_of(
     alloc: Global,
     left: &Item,
     parts: Option<Parts<Pat>>,
-    twin: Option<Twin>,
+    twin: Option<Held<Twin>>,
     right: &Item,
-) -> Result<Option<Twin>, Stop> {
+) -> Result<Option<Held<Twin>>, Stop> {
     let Some(mut parts) = parts else {
         return Ok(None);
     };
@@ -194,7 +205,7 @@ pub fn list_of(
     let left = left.clone()?;
     let right = right.clone()?;
     let part = list(alloc, left, parts, right)?;
-    Ok(Some(Twin::Pattern(part)))
+    Ok(Some(Held::new(Twin::Pattern(part))))
 }
 
 /// No operands yet, where patterns may stand.
@@ -211,7 +222,7 @@ pub fn one_operand_more(
     alloc: Global,
     operands: Option<Operands<Pat>>,
     minus: Option<&Item>,
-    twin: Option<Twin>,
+    twin: Option<Held<Twin>>,
     operator: &Operator,
 ) -> Result<Option<Operands<Pat>>, AllocError> {
     let Some(mut operands) = operands else {
@@ -233,8 +244,8 @@ pub fn sequence_of(
     alloc: Global,
     operands: Option<Operands<Pat>>,
     minus: Option<&Item>,
-    twin: Option<Twin>,
-) -> Result<Option<Twin>, Stop> {
+    twin: Option<Held<Twin>>,
+) -> Result<Option<Held<Twin>>, Stop> {
     let Some(operands) = operands else {
         return Ok(None);
     };
@@ -249,7 +260,7 @@ pub fn sequence_of(
     };
     nest(1, operands.height.max(last.height))?;
     let part = infix(alloc, operands, last)?;
-    Ok(Some(Twin::Pattern(part)))
+    Ok(Some(Held::new(Twin::Pattern(part))))
 }
 
 fn same_operator(operator: &Operator) -> Result<Operator, AllocError> {
@@ -264,25 +275,25 @@ fn same_operator(operator: &Operator) -> Result<Operator, AllocError> {
 }
 
 /// The same number in a pattern, where one may stand.
-pub fn number_twin(number: &Item, may_bind: bool) -> Result<Option<Twin>, AllocError> {
+pub fn number_twin(number: &Item, may_bind: bool) -> Result<Option<Held<Twin>>, AllocError> {
     if !may_bind {
         return Ok(None);
     }
     let number = number.clone()?;
-    Ok(Some(Twin::Number(number)))
+    Ok(Some(Held::new(Twin::Number(number))))
 }
 
 pub fn literal_twin(
     alloc: Global,
     literal: &Item,
     may_bind: bool,
-) -> Result<Option<Twin>, AllocError> {
+) -> Result<Option<Held<Twin>>, AllocError> {
     if !may_bind {
         return Ok(None);
     }
     let literal = literal.clone()?;
     let part = leaf(alloc, Pat::Literal(literal))?;
-    Ok(Some(Twin::Pattern(part)))
+    Ok(Some(Held::new(Twin::Pattern(part))))
 }
 
 /// The same variable as a pattern, where one may stand.
@@ -290,13 +301,13 @@ pub fn bound_twin(
     alloc: Global,
     variable: &Variable,
     may_bind: bool,
-) -> Result<Option<Twin>, AllocError> {
+) -> Result<Option<Held<Twin>>, AllocError> {
     if !may_bind {
         return Ok(None);
     }
     let bound = same_variable(variable)?;
     let part = leaf(alloc, Pat::Variable(bound))?;
-    Ok(Some(Twin::Pattern(part)))
+    Ok(Some(Held::new(Twin::Pattern(part))))
 }
 
 fn same_variable(variable: &Variable) -> Result<Variable, AllocError> {
@@ -311,12 +322,12 @@ fn same_variable(variable: &Variable) -> Result<Variable, AllocError> {
 }
 
 /// The same constructor in a pattern, where one may stand.
-pub fn named_twin(named: &Constructor, may_bind: bool) -> Result<Option<Twin>, AllocError> {
+pub fn named_twin(named: &Constructor, may_bind: bool) -> Result<Option<Held<Twin>>, AllocError> {
     if !may_bind {
         return Ok(None);
     }
     let named = same_constructor(named)?;
-    Ok(Some(Twin::Named(named)))
+    Ok(Some(Held::new(Twin::Named(Held::new(named)))))
 }
 
 fn same_constructor(named: &Constructor) -> Result<Constructor, AllocError> {
