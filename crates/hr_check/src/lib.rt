@@ -1,0 +1,12 @@
+//! Projects: texts that are read, whose names are bound and whose infix sequences are resolved.
+#![tactic(auto)]
+
+mod checking;
+mod error;
+mod imports;
+mod project;
+
+pub use checking::{check, read_all};
+pub use error::LoadError;
+pub use imports::{edges, names};
+pub use project::Project;
