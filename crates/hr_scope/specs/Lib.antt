@@ -1,3 +1,2 @@
 pub mod Once
 pub mod Declarers
-pub mod Entries
