@@ -38,7 +38,12 @@ pub fn read_all(alloc: Global, texts: &[Text]) -> Result<Vec<Module>, LoadError>
 }
 
 /// Reads the text of that number.
-fn read(alloc: Global, trees: &mut Vec<Module>, text: usize, bytes: &[u8]) -> Result<(), LoadError> {
+fn read(
+    alloc: Global,
+    trees: &mut Vec<Module>,
+    text: usize,
+    bytes: &[u8],
+) -> Result<(), LoadError> {
     match lex(alloc, bytes) {
         Err(error) => Err(LoadError::lexing(text, error)),
         Ok(items) => match parse(alloc, items) {

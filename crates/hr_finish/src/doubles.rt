@@ -44,7 +44,11 @@ fn add_merged(
     let old = outline_of(alloc, before)?;
     let new = outline_of(alloc, after)?;
     let marks = new.marks.as_slice();
-    for (item, (mark, drafted)) in marks.iter().zip(draft.lexemes.as_slice().iter()).enumerate() {
+    for (item, (mark, drafted)) in marks
+        .iter()
+        .zip(draft.lexemes.as_slice().iter())
+        .enumerate()
+    {
         if mark.role == Role::GoesOn && declares(old.marks.as_slice(), drafted) {
             if let Some(first) = declared_before(marks, item) {
                 doubles.push(double_in(draft.module, first, item))?;

@@ -103,11 +103,7 @@ fn spot_at(modules: &[Module], place: &Place) -> Option<Spot> {
 }
 
 /// Why a target that its check has accepted is refused: a name is bound otherwise, or two definitions are read as one.
-pub fn why_renamed(
-    alloc: Global,
-    trial: Trial,
-    new: &Project,
-) -> Result<Option<Why>, AllocError> {
+pub fn why_renamed(alloc: Global, trial: Trial, new: &Project) -> Result<Option<Why>, AllocError> {
     let doubles = merged_definitions(alloc, trial.old.modules(), new.modules(), trial.drafts)?;
     let none = Bindings {
         modules: Seq {

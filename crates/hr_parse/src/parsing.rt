@@ -16,8 +16,7 @@ struct Whole {
 }
 
 /// The tree of the items.
-pub fn parse(alloc: Global, items: Items) -> Result<Module, ParseError>
-{
+pub fn parse(alloc: Global, items: Items) -> Result<Module, ParseError> {
     let Items { list, tail } = items;
     let mut cursor = match Cursor::new(alloc, list) {
         Ok(cursor) => cursor,
@@ -39,8 +38,7 @@ pub fn parse(alloc: Global, items: Items) -> Result<Module, ParseError>
 }
 
 /// The header, if the text begins with one, and the body, behind which nothing stands.
-fn read(alloc: Global, cursor: &mut Cursor, notes: &mut Notes) -> Result<Whole, Stop>
-{
+fn read(alloc: Global, cursor: &mut Cursor, notes: &mut Notes) -> Result<Whole, Stop> {
     let header = maybe_header(alloc, cursor, notes)?;
     let body = declarations(alloc, cursor, notes, 0, true)?;
     if cursor.peek().is_some() {
@@ -54,8 +52,7 @@ fn maybe_header(
     alloc: Global,
     cursor: &mut Cursor,
     notes: &mut Notes,
-) -> Result<Held<Option<Header>>, Stop>
-{
+) -> Result<Held<Option<Header>>, Stop> {
     if !is_next(cursor, Mark::Module) {
         return Ok(Held::new(None));
     }

@@ -46,18 +46,14 @@ fn run(
     let mut said = String::new(alloc);
     let mut project = project;
     for command in commands {
-        match rename(
-            alloc,
-            &project,
-            command.module,
-            command.pos,
-            command.new,
-        ) {
-            Ok(Step {
-                project: new,
-                map: _,
-                footprint: _,
-            }) => {
+        match rename(alloc, &project, command.module, command.pos, command.new) {
+            Ok(
+                Step {
+                    project: new,
+                    map: _,
+                    footprint: _,
+                },
+            ) => {
                 project = new;
                 add(&mut said, "done")?;
             }
