@@ -11,7 +11,7 @@ use std::alloc::AllocError;
 use thiserror::Error;
 
 /// Why texts are no project: the first layer that refuses. `text` is the number of the text, from 0.
-#[derive(Debug, Drop, Error)]
+#[derive(Debug, Error)]
 pub enum LoadError {
     #[error("text {text} has no lexemes")]
     Lex { text: usize, error: LexError },
@@ -28,6 +28,27 @@ pub enum LoadError {
     /// There was no memory, for whichever layer.
     #[error(transparent)]
     Memory(AllocError),
+}
+
+/// By hand, so that who lets a refusal go calls this, and does not take all its variants apart.
+impl Drop for LoadError {
+    fn drop(self) {
+        match self {
+            LoadError::Lex { text, error } => {
+                drop(text);
+                drop(error);
+            }
+            LoadError::Parse { text, error } => {
+                drop(text);
+                drop(error);
+            }
+            LoadError::Graph(error) => drop(error),
+            LoadError::Exports(error) => drop(error),
+            LoadError::Scope(error) => drop(error),
+            LoadError::Fixity(error) => drop(error),
+            LoadError::Memory(error) => drop(error),
+        }
+    }
 }
 
 impl From<AllocError> for LoadError {

@@ -40,7 +40,7 @@ pub fn finish(alloc: Global, old: &Project, edits: &[Edit], map: NameMap) -> Res
                 footprint: footprint(alloc, old.modules(), edits)?,
             })
         }
-        Err(error) => Err(why_refused(alloc, trial, texts.as_slice(), error)),
+        Err(error) => Err(why_refused(alloc, trial, texts.as_slice(), &error)),
     }
 }
 

@@ -27,7 +27,7 @@ pub struct Trial<'a> {
 }
 
 /// Why the target isn't accepted, from what its check has refused.
-pub fn why_refused(alloc: Global, trial: Trial, texts: &[Text], error: LoadError) -> Why {
+pub fn why_refused(alloc: Global, trial: Trial, texts: &[Text], error: &LoadError) -> Why {
     match error {
         LoadError::Parse {
             error: ParseError::TooDeep { .. },

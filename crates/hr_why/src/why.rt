@@ -8,7 +8,6 @@ use std::alloc::AllocError;
 
 /// Why a step is refused. Of several reasons the first one in this order is shown. Places are positions in the text
 /// before the step.
-#[derive(Drop)]
 pub enum Why {
     /// There is no such module, or nothing that the command could mean.
     NoSuchThing {
@@ -109,6 +108,58 @@ pub enum Why {
         group: Text,
     },
     Memory(AllocError),
+}
+
+/// By hand, so that who lets a refusal go calls this, and does not take all its variants apart.
+impl Drop for Why {
+    fn drop(self) {
+        match self {
+            Why::NoSuchThing { at } => drop(at),
+            Why::Builtin { entity } => drop(entity),
+            Why::WrongForm => {}
+            Why::SameName => {}
+            Why::MainFixed => {}
+            Why::NotSimpleBinding { place } => drop(place),
+            Why::InfixUse { place } => drop(place),
+            Why::UsedIn { first, second } => {
+                drop(first);
+                drop(second);
+            }
+            Why::Exported { entity } => drop(entity),
+            Why::MentionsItself { place } => drop(place),
+            Why::LocalInExpression { name } => drop(name),
+            Why::ParameterUsed { place } => drop(place),
+            Why::TooFewArguments { place } => drop(place),
+            Why::SeveralEquations => {}
+            Why::SignatureHides => {}
+            Why::TypeNotNameable { ty } => drop(ty),
+            Why::WouldCycle { names } => drop(names),
+            Why::NotInScopeThere { name } => drop(name),
+            Why::NotFlatCase { place } => drop(place),
+            Why::NotData => {}
+            Why::OperatorConstructor { name } => drop(name),
+            Why::NoExportList => {}
+            Why::OverLimit => {}
+            Why::WouldRebind { occ, old, new } => {
+                drop(occ);
+                drop(old);
+                drop(new);
+            }
+            Why::WouldDeclareTwice { first, second } => {
+                drop(first);
+                drop(second);
+            }
+            Why::WouldClashExport { module, name } => {
+                drop(module);
+                drop(name);
+            }
+            Why::WouldNotType { module, group } => {
+                drop(module);
+                drop(group);
+            }
+            Why::Memory(error) => drop(error),
+        }
+    }
 }
 
 impl From<AllocError> for Why {
