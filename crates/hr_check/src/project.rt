@@ -1,0 +1,35 @@
+use crate::Modules;
+use hr_base::Text;
+use hr_tables::{Bindings, Interfaces};
+use hr_tree::Module;
+
+/// A project that was checked. Its modules are those of the texts in their order, and then Prelude and Char.
+#[derive(Drop)]
+pub struct Project {
+    pub(crate) texts: Vec<Text>,
+    pub(crate) trees: Modules,
+    pub(crate) interfaces: Interfaces,
+    pub(crate) bindings: Bindings,
+}
+
+impl Project {
+    /// The texts of the modules, without Prelude and Char.
+    pub fn texts(&self) -> &[Text] {
+        self.texts.as_slice()
+    }
+
+    /// The trees of the modules, Prelude and Char last.
+    pub fn modules(&self) -> &[Module] {
+        self.trees.as_slice()
+    }
+
+    /// What is exported, and what is in scope.
+    pub fn interfaces(&self) -> &Interfaces {
+        &self.interfaces
+    }
+
+    /// What each name is bound to.
+    pub fn bindings(&self) -> &Bindings {
+        &self.bindings
+    }
+}
