@@ -1,0 +1,60 @@
+//! Modules: the Haskell 98 Report, chapter 5. The first lexeme decides whether there is a header.
+
+use hr_base::Items;
+use hr_layout::Cursor;
+use hr_parse_declaration::header;
+use hr_parse_expression::{Blocked, declarations};
+use hr_parse_lexeme::{Held, Mark, Notes, ParseError, Stop, is_next, refusal};
+use hr_tree::{Block, Decl, Header, Module};
+use std::alloc::Global;
+
+/// What is read of a module, but for what is behind its last lexeme.
+#[derive(Drop)]
+struct Whole {
+    header: Held<Option<Header>>,
+    body: Blocked<Decl>,
+}
+
+/// The tree of the items.
+pub fn parse(alloc: Global, items: Items) -> Result<Module, ParseError> {
+    let Items { list, tail } = items;
+    let mut cursor = match Cursor::new(alloc, list) {
+        Ok(cursor) => cursor,
+        Err(error) => return Err(ParseError::Memory(error)),
+    };
+    let mut notes = Notes::new();
+    match read(alloc, &mut cursor, &mut notes) {
+        Err(stop) => Err(refusal(alloc, &cursor, &notes, stop)),
+        Ok(Whole { header, body }) => {
+            let Blocked { layout, pieces, .. } = body;
+            let body = Block { layout, pieces };
+            Ok(Module {
+                header: header.take(),
+                body,
+                tail,
+            })
+        }
+    }
+}
+
+/// The header, if the text begins with one, and the body, behind which nothing stands.
+fn read(alloc: Global, cursor: &mut Cursor, notes: &mut Notes) -> Result<Whole, Stop> {
+    let header = maybe_header(alloc, cursor, notes)?;
+    let body = declarations(alloc, cursor, notes, 0, true)?;
+    if cursor.peek().is_some() {
+        return Err(Stop::Syntax);
+    }
+    Ok(Whole { header, body })
+}
+
+fn maybe_header(
+    alloc: Global,
+    cursor: &mut Cursor,
+    notes: &mut Notes,
+) -> Result<Held<Option<Header>>, Stop> {
+    if !is_next(cursor, Mark::Module) {
+        return Ok(Held::new(None));
+    }
+    let found = header(alloc, cursor, notes)?;
+    Ok(Held::new(Some(found)))
+}

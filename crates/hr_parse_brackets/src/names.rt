@@ -1,0 +1,103 @@
+//! Names and operators in parentheses as atoms: the Haskell 98 Report, section 3.2.
+
+use hr_base::Item;
+use hr_layout::Cursor;
+use hr_parse_lexeme::{Kind, Mark, Notes, Stop, is_next};
+use hr_parse_nodes::nodes::node;
+use hr_parse_parts::{
+    APPLIED, Step, Twin, bound_twin, done_expression, done_pattern, named_twin, operand,
+};
+use hr_parse_pattern::{Part, bound_at};
+use hr_tree::{Constructor, Exp, Variable};
+use std::alloc::Global;
+
+/// A variable that a pattern may bind, or what it is bound to, which is a pattern.
+pub fn variable(
+    alloc: Global,
+    cursor: &mut Cursor,
+    notes: &mut Notes,
+    depth: u32,
+    name: Variable,
+    may_bind: bool,
+) -> Result<Step, Stop> {
+    if may_bind && is_next(cursor, Mark::At) {
+        let part = bound_at(alloc, cursor, notes, depth, name)?;
+        notes.whole(cursor.pos());
+        return Ok(done_pattern(part));
+    }
+    let twin = bound_twin(alloc, &name, may_bind)?;
+    let exp = node(alloc, Exp::Variable(name), 0)?;
+    Ok(whole(cursor, notes, exp, twin))
+}
+
+/// A variable of an expression alone.
+pub fn used(
+    alloc: Global,
+    cursor: &Cursor,
+    notes: &mut Notes,
+    name: Variable,
+) -> Result<Step, Stop> {
+    let exp = node(alloc, Exp::Variable(name), 0)?;
+    Ok(whole(cursor, notes, exp, None))
+}
+
+pub fn constructor(
+    alloc: Global,
+    cursor: &Cursor,
+    notes: &mut Notes,
+    named: Constructor,
+    may_bind: bool,
+) -> Result<Step, Stop> {
+    let twin = named_twin(&named, may_bind)?;
+    let exp = node(alloc, Exp::Constructor(named), 0)?;
+    Ok(whole(cursor, notes, exp, twin))
+}
+
+/// An operator of the kind in parentheses.
+#[derive(Drop)]
+pub(crate) struct Parenthesized {
+    pub(crate) left: Item,
+    pub(crate) symbol: Item,
+    pub(crate) right: Item,
+    pub(crate) kind: Kind,
+}
+
+/// An operator in parentheses. A pattern has no qualified variable.
+pub(crate) fn symbol(
+    alloc: Global,
+    cursor: &mut Cursor,
+    notes: &mut Notes,
+    depth: u32,
+    name: Parenthesized,
+    may_bind: bool,
+) -> Result<Step, Stop> {
+    let Parenthesized {
+        left,
+        symbol,
+        right,
+        kind,
+    } = name;
+    match kind {
+        Kind::Minus => {
+            let name = Variable::Symbol(left, symbol, right);
+            variable(alloc, cursor, notes, depth, name, may_bind)
+        }
+        Kind::VariableSymbol => {
+            let name = Variable::Symbol(left, symbol, right);
+            variable(alloc, cursor, notes, depth, name, may_bind)
+        }
+        Kind::QualifiedVariableSymbol => {
+            used(alloc, cursor, notes, Variable::Symbol(left, symbol, right))
+        }
+        _ => {
+            let named = Constructor::Symbol(left, symbol, right);
+            constructor(alloc, cursor, notes, named, may_bind)
+        }
+    }
+}
+
+/// An atom that is whole.
+pub fn whole(cursor: &Cursor, notes: &mut Notes, part: Part<Exp>, twin: Option<Twin>) -> Step {
+    notes.whole(cursor.pos());
+    done_expression(operand(part, APPLIED, twin))
+}

@@ -1,0 +1,259 @@
+//! The nodes of expressions, with their heights. Each is made and boxed in one step.
+
+use hr_base::Item;
+use hr_parse_lexeme::{Measured, Stop, nest};
+use hr_parse_parts::{Blocked, Comprehension, Condition, Dots, LetBody, Read, Tail, open};
+use hr_parse_pattern::{Many, Operands, Part, Parts};
+use hr_tree::{Alt, Block, Exp, Operator, Pat, Ty};
+use sqlite_items::Boxed;
+use std::alloc::Global;
+
+/// The node over parts with so many levels, which fit: what begins a node has shown it before.
+pub fn node(alloc: Global, exp: Exp, levels: u32) -> Result<Part<Exp>, Stop> {
+    let tree = Boxed::new(alloc, exp)?;
+    nest(1, levels)?;
+    Ok(Part {
+        tree,
+        height: levels + 1,
+    })
+}
+
+pub fn group(alloc: Global, left: Item, part: Part<Exp>, right: Item) -> Result<Part<Exp>, Stop> {
+    let Part { tree, height } = part;
+    node(alloc, Exp::Group(left, tree, right), height)
+}
+
+pub fn left_section(
+    alloc: Global,
+    left: Item,
+    part: Part<Exp>,
+    operator: Operator,
+    right: Item,
+) -> Result<Part<Exp>, Stop> {
+    let Part { tree, height } = part;
+    node(alloc, Exp::LeftSection(left, tree, operator, right), height)
+}
+
+pub fn right_section(
+    alloc: Global,
+    left: Item,
+    operator: Operator,
+    part: Part<Exp>,
+    right: Item,
+) -> Result<Part<Exp>, Stop> {
+    let Part { tree, height } = part;
+    node(
+        alloc,
+        Exp::RightSection(left, operator, tree, right),
+        height,
+    )
+}
+
+pub fn tuple(alloc: Global, left: Item, parts: Parts<Exp>, right: Item) -> Result<Part<Exp>, Stop> {
+    let Parts { list, height } = parts;
+    node(alloc, Exp::Tuple(left, list, right), height)
+}
+
+pub fn list(alloc: Global, left: Item, parts: Parts<Exp>, right: Item) -> Result<Part<Exp>, Stop> {
+    let Parts { list, height } = parts;
+    node(alloc, Exp::List(left, list, right), height)
+}
+
+/// `[a ..]` or `[a, b ..]`.
+pub fn from(alloc: Global, dots: Dots, mark: Item, right: Item) -> Result<Part<Exp>, Stop> {
+    match dots {
+        Dots::One(left, first) => {
+            let Part { tree, height } = first;
+            node(alloc, Exp::From(left, tree, mark, right), height)
+        }
+        Dots::Two(left, first, comma, second) => {
+            let levels = first.height.max(second.height);
+            let Part { tree: first, .. } = first;
+            let Part { tree: second, .. } = second;
+            node(
+                alloc,
+                Exp::FromThen(left, first, comma, second, mark, right),
+                levels,
+            )
+        }
+    }
+}
+
+/// `[a .. c]` or `[a, b .. c]`.
+pub fn from_to(
+    alloc: Global,
+    dots: Dots,
+    mark: Item,
+    last: Part<Exp>,
+    right: Item,
+) -> Result<Part<Exp>, Stop> {
+    let Part { tree: last, height } = last;
+    match dots {
+        Dots::One(left, first) => {
+            let levels = first.height.max(height);
+            let Part { tree: first, .. } = first;
+            node(alloc, Exp::FromTo(left, first, mark, last, right), levels)
+        }
+        Dots::Two(left, first, comma, second) => {
+            let levels = first.height.max(second.height).max(height);
+            let Part { tree: first, .. } = first;
+            let Part { tree: second, .. } = second;
+            let exp = Exp::FromThenTo(left, first, comma, second, mark, last, right);
+            node(alloc, exp, levels)
+        }
+    }
+}
+
+pub fn apply(alloc: Global, atoms: Many<Exp>) -> Result<Part<Exp>, Stop> {
+    let Many { list, height } = atoms;
+    node(alloc, Exp::Apply(list), height)
+}
+
+pub fn annotated(
+    alloc: Global,
+    part: Part<Exp>,
+    colons: Item,
+    ty: Measured<Ty>,
+) -> Result<Part<Exp>, Stop> {
+    let Part { tree, height } = part;
+    let levels = ty.height.max(height);
+    let Measured { tree: ty, .. } = ty;
+    node(alloc, Exp::Annotated(tree, colons, ty.take()), levels)
+}
+
+/// The operands with the last one behind them, which stands alone where there is no other and no minus before it.
+pub fn sequence(
+    alloc: Global,
+    operands: Operands<Exp>,
+    minus: Option<Item>,
+    last: Part<Exp>,
+) -> Result<Part<Exp>, Stop> {
+    if operands.is_empty() && minus.is_none() {
+        return Ok(last);
+    }
+    let mut operands = operands;
+    operands.push(minus, last, None)?;
+    let Operands { list, height } = operands;
+    node(alloc, Exp::Infix(list), height)
+}
+
+pub fn comprehension(alloc: Global, begun: Comprehension, right: Item) -> Result<Part<Exp>, Stop> {
+    let Comprehension {
+        left,
+        first,
+        bar,
+        qualifiers,
+        ..
+    } = begun;
+    let Part { tree, height } = first;
+    let Parts {
+        list,
+        height: levels,
+    } = qualifiers;
+    let levels = levels.max(height);
+    node(
+        alloc,
+        Exp::Comprehension(left, tree, bar, list, right),
+        levels,
+    )
+}
+
+pub fn lambda(
+    alloc: Global,
+    mark: Item,
+    patterns: Many<Pat>,
+    arrow: Item,
+    body: Read,
+) -> Result<Read, Stop> {
+    let Many { list, height } = patterns;
+    let Read {
+        tree,
+        height: levels,
+        ending,
+        operator,
+        ..
+    } = body;
+    let exp = node(
+        alloc,
+        Exp::Lambda(mark, list, arrow, tree),
+        height.max(levels),
+    )?;
+    Ok(open(exp, Tail { ending, operator }))
+}
+
+pub fn local(alloc: Global, local: LetBody, body: Read) -> Result<Read, Stop> {
+    let LetBody {
+        word,
+        block,
+        in_word,
+    } = local;
+    let Blocked {
+        layout,
+        pieces,
+        height,
+    } = block;
+    let block = Block { layout, pieces };
+    let Read {
+        tree,
+        height: levels,
+        ending,
+        operator,
+        ..
+    } = body;
+    let exp = node(
+        alloc,
+        Exp::Let(word, block, in_word, tree),
+        height.max(levels),
+    )?;
+    Ok(open(exp, Tail { ending, operator }))
+}
+
+pub fn condition(
+    alloc: Global,
+    condition: Condition,
+    first: Part<Exp>,
+    else_word: Item,
+    second: Read,
+) -> Result<Read, Stop> {
+    let Condition {
+        word,
+        test,
+        then_word,
+    } = condition;
+    let Part { tree: test, height } = test;
+    let Part {
+        tree: first,
+        height: more,
+    } = first;
+    let Read {
+        tree: second,
+        height: levels,
+        ending,
+        operator,
+        ..
+    } = second;
+    let exp = Exp::If(word, test, then_word, first, else_word, second);
+    let exp = node(alloc, exp, height.max(more).max(levels))?;
+    Ok(open(exp, Tail { ending, operator }))
+}
+
+pub fn case(
+    alloc: Global,
+    word: Item,
+    part: Part<Exp>,
+    of_word: Item,
+    block: Blocked<Alt>,
+) -> Result<Part<Exp>, Stop> {
+    let Part { tree, height } = part;
+    let Blocked {
+        layout,
+        pieces,
+        height: levels,
+    } = block;
+    let block = Block { layout, pieces };
+    node(
+        alloc,
+        Exp::Case(word, tree, of_word, block),
+        height.max(levels),
+    )
+}

@@ -1,0 +1,86 @@
+//! Atoms: the Haskell 98 Report, section 3.2.
+
+use hr_layout::Cursor;
+use hr_parse_brackets::{constructor, parenthesized, squared, used, variable, whole};
+use hr_parse_lexeme::{Kind, Notes, Sort, Stop, expect_sort, kind_ahead, nest};
+use hr_parse_nodes::nodes::node;
+use hr_parse_parts::{
+    Step, begins_atom, begins_pattern_alone, done_pattern, literal_twin, number_twin,
+};
+use hr_parse_pattern::atomic;
+use hr_tree::{Constructor, Exp, Variable};
+use std::alloc::Global;
+
+/// An atom, or an atomic pattern where one may stand. The first lexeme decides where it belongs to one of both alone.
+pub fn atom(
+    alloc: Global,
+    cursor: &mut Cursor,
+    notes: &mut Notes,
+    depth: u32,
+    may_bind: bool,
+) -> Result<Step, Stop> {
+    let kind = kind_ahead(cursor);
+    if may_bind && begins_pattern_alone(kind) {
+        let part = atomic(alloc, cursor, notes, depth)?;
+        return Ok(done_pattern(part));
+    }
+    if !begins_atom(kind) {
+        return Err(Stop::Syntax);
+    }
+    nest(depth, 1)?;
+    match kind {
+        Kind::LeftParen => parenthesized(alloc, cursor, notes, depth, may_bind),
+        Kind::LeftSquare => squared(alloc, cursor, notes, depth, may_bind),
+        Kind::Integer => number(alloc, cursor, notes, may_bind),
+        Kind::Literal => literal(alloc, cursor, notes, may_bind),
+        _ => named(alloc, cursor, notes, depth, may_bind),
+    }
+}
+
+fn number(
+    alloc: Global,
+    cursor: &mut Cursor,
+    notes: &mut Notes,
+    may_bind: bool,
+) -> Result<Step, Stop> {
+    let number = expect_sort(cursor, Sort::Integer)?;
+    let twin = number_twin(&number, may_bind)?;
+    let exp = node(alloc, Exp::Literal(number), 0)?;
+    Ok(whole(cursor, notes, exp, twin))
+}
+
+fn literal(
+    alloc: Global,
+    cursor: &mut Cursor,
+    notes: &mut Notes,
+    may_bind: bool,
+) -> Result<Step, Stop> {
+    let literal = expect_sort(cursor, Sort::Literal)?;
+    let twin = literal_twin(alloc, &literal, may_bind)?;
+    let exp = node(alloc, Exp::Literal(literal), 0)?;
+    Ok(whole(cursor, notes, exp, twin))
+}
+
+/// A name.
+fn named(
+    alloc: Global,
+    cursor: &mut Cursor,
+    notes: &mut Notes,
+    depth: u32,
+    may_bind: bool,
+) -> Result<Step, Stop> {
+    match kind_ahead(cursor) {
+        Kind::Variable => {
+            let name = expect_sort(cursor, Sort::Variable)?;
+            variable(alloc, cursor, notes, depth, Variable::Name(name), may_bind)
+        }
+        Kind::QualifiedVariable => {
+            let name = expect_sort(cursor, Sort::NamedVariable)?;
+            used(alloc, cursor, notes, Variable::Name(name))
+        }
+        _ => {
+            let name = expect_sort(cursor, Sort::NamedConstructor)?;
+            constructor(alloc, cursor, notes, Constructor::Name(name), may_bind)
+        }
+    }
+}

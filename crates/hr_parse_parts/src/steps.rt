@@ -1,0 +1,148 @@
+//! What is read next, and what waits for it. Expressions, declarations and blocks stand in one another, so none of
+//! their readers calls another one: each takes lexemes up to the next part of its own and says what that is, and what
+//! waits for the part stands on a stack. So a text may nest as deep as it likes, and each reader is proved alone.
+
+use crate::blocks::{Alts, Decls, Left, Side, Siding};
+use crate::brackets::Bracket;
+use crate::operands::{Arguments, Form, LetBody, Sequence};
+use crate::pieces::Blocked;
+use crate::place::Place;
+use crate::read::Read;
+use hr_base::Item;
+use hr_parse_lexeme::{Held, Mark, Stop};
+use hr_parse_pattern::Part;
+use hr_tree::{Alt, Decl, Pat};
+
+/// What is read next.
+#[derive(Drop)]
+pub enum Goal {
+    /// An expression, or a pattern where one may stand; the minus before it may have been taken.
+    Sequence(Place, Option<Item>),
+    /// An operand of a sequence.
+    Operand(Place),
+    /// An atom with the nesting, or an atomic pattern where one may stand.
+    Atom(u32, bool),
+    /// The block behind a `let` or `where`, or a module's body, below a node whose nesting this is.
+    Declarations(u32, bool),
+    /// The block behind an `of`.
+    Alternatives(u32),
+    /// The right side of a part with the nesting, with this mark.
+    Side(u32, Mark),
+    /// What stands behind `in`.
+    Body(Place, Held<LetBody>),
+    /// The next piece of a block.
+    Declaration(Held<Decls>),
+    Alternative(Held<Alts>),
+}
+
+/// What waits for a part.
+#[derive(Drop)]
+pub enum Frame {
+    Operand(Held<Sequence>),
+    /// An operand's first atom, with its nesting.
+    Head(u32),
+    Argument(Held<Arguments>),
+    Bracket(Held<Bracket>),
+    Form(Held<Form>),
+    Side(Held<Siding>),
+    Declaration(Held<Decls>, Held<Left>),
+    Alternative(Held<Alts>, Part<Pat>),
+}
+
+/// What was read.
+#[derive(Drop)]
+pub enum Value {
+    Expression(Held<Read>),
+    /// A pattern that is no expression.
+    Pattern(Part<Pat>),
+    Declarations(Held<Blocked<Decl>>),
+    Alternatives(Held<Blocked<Alt>>),
+    Side(Held<Side>),
+}
+
+/// What follows from what was taken.
+#[derive(Drop)]
+pub enum Step {
+    Read(Held<Goal>),
+    /// The frame waits for the part.
+    Wait(Held<Frame>, Held<Goal>),
+    Done(Held<Value>),
+}
+
+pub fn go(goal: Goal) -> Step {
+    Step::Read(Held::new(goal))
+}
+
+pub fn wait(frame: Frame, goal: Goal) -> Step {
+    Step::Wait(Held::new(frame), Held::new(goal))
+}
+
+fn done(value: Value) -> Step {
+    Step::Done(Held::new(value))
+}
+
+pub fn done_expression(read: Read) -> Step {
+    done(Value::Expression(Held::new(read)))
+}
+
+pub fn done_pattern(part: Part<Pat>) -> Step {
+    done(Value::Pattern(part))
+}
+
+pub fn done_declarations(block: Blocked<Decl>) -> Step {
+    done(Value::Declarations(Held::new(block)))
+}
+
+pub fn done_alternatives(block: Blocked<Alt>) -> Step {
+    done(Value::Alternatives(Held::new(block)))
+}
+
+pub fn done_side(side: Side) -> Step {
+    done(Value::Side(Held::new(side)))
+}
+
+/// An expression or a pattern that was read.
+#[derive(Drop)]
+pub enum Mixed {
+    Expression(Held<Read>),
+    Pattern(Part<Pat>),
+}
+
+pub fn mixed_of(value: Held<Value>) -> Result<Mixed, Stop> {
+    match value.take() {
+        Value::Expression(read) => Ok(Mixed::Expression(read)),
+        Value::Pattern(part) => Ok(Mixed::Pattern(part)),
+        Value::Declarations(_) => Err(Stop::Syntax),
+        Value::Alternatives(_) => Err(Stop::Syntax),
+        Value::Side(_) => Err(Stop::Syntax),
+    }
+}
+
+/// The expression that was read.
+pub fn expression(value: Held<Value>) -> Result<Read, Stop> {
+    match value.take() {
+        Value::Expression(read) => Ok(read.take()),
+        _ => Err(Stop::Syntax),
+    }
+}
+
+pub fn declarations_of(value: Held<Value>) -> Result<Blocked<Decl>, Stop> {
+    match value.take() {
+        Value::Declarations(block) => Ok(block.take()),
+        _ => Err(Stop::Syntax),
+    }
+}
+
+pub fn alternatives_of(value: Held<Value>) -> Result<Blocked<Alt>, Stop> {
+    match value.take() {
+        Value::Alternatives(block) => Ok(block.take()),
+        _ => Err(Stop::Syntax),
+    }
+}
+
+pub fn side_of(value: Held<Value>) -> Result<Side, Stop> {
+    match value.take() {
+        Value::Side(side) => Ok(side.take()),
+        _ => Err(Stop::Syntax),
+    }
+}

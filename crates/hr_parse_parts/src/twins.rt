@@ -1,0 +1,348 @@
+//! Patterns that have the lexemes of an expression. What may be an expression or a pattern, as a qualifier's
+//! beginning, is read once, and both are built, until a lexeme comes that only one of them can go on with.
+
+use hr_base::Item;
+use hr_parse_lexeme::{Stop, nest};
+use hr_parse_pattern::{Many, Operands, Part, Parts, applied, group, infix, leaf, list, tuple};
+use hr_tree::{Constructor, Operator, Pat, Variable};
+use std::alloc::{AllocError, Global};
+
+/// A pattern, or a constructor that arguments may follow.
+#[derive(Drop)]
+pub enum Twin {
+    Named(Constructor),
+    /// An integer, which a minus may stand before.
+    Number(Item),
+    Pattern(Part<Pat>),
+}
+
+/// A constructor and the patterns behind it.
+#[derive(Drop)]
+pub struct Applied {
+    pub constructor: Constructor,
+    pub patterns: Many<Pat>,
+}
+
+/// The pattern, of which nothing more is read.
+pub fn pattern_of(alloc: Global, twin: Twin) -> Result<Part<Pat>, AllocError> {
+    match twin {
+        Twin::Named(named) => {
+            let part = leaf(alloc, Pat::Constructor(named))?;
+            Ok(part)
+        }
+        Twin::Number(number) => {
+            let part = leaf(alloc, Pat::Literal(number))?;
+            Ok(part)
+        }
+        Twin::Pattern(part) => Ok(part),
+    }
+}
+
+/// The pattern with the minus before it, if there is one.
+fn operand_of(
+    alloc: Global,
+    minus: Option<&Item>,
+    twin: Twin,
+) -> Result<Option<Part<Pat>>, AllocError> {
+    let Some(minus) = minus else {
+        let part = pattern_of(alloc, twin)?;
+        return Ok(Some(part));
+    };
+    match twin {
+        Twin::Number(number) => {
+            let minus = minus.clone()?;
+            let part = leaf(alloc, Pat::Negative(minus, number))?;
+            Ok(Some(part))
+        }
+        _ => Ok(None),
+    }
+}
+
+/// The application to patterns of what may be a constructor.
+pub fn head_of(alloc: Global, twin: Option<Twin>) -> Option<Applied> {
+    match twin {
+        Some(Twin::Named(constructor)) => Some(Applied {
+            constructor,
+            patterns: Many::new(alloc),
+        }),
+        _ => None,
+    }
+}
+
+/// One argument more, while there are patterns.
+pub fn one_more(
+    alloc: Global,
+    applied: Option<Applied>,
+    twin: Option<Twin>,
+) -> Result<Option<Applied>, AllocError> {
+    let Some(applied) = applied else {
+        return Ok(None);
+    };
+    let Some(twin) = twin else {
+        return Ok(None);
+    };
+    let Applied {
+        constructor,
+        mut patterns,
+    } = applied;
+    let part = pattern_of(alloc, twin)?;
+    patterns.push(part)?;
+    Ok(Some(Applied {
+        constructor,
+        patterns,
+    }))
+}
+
+pub fn applied_of(alloc: Global, head: Option<Applied>) -> Result<Option<Twin>, Stop> {
+    let Some(head) = head else {
+        return Ok(None);
+    };
+    let Applied {
+        constructor,
+        patterns,
+    } = head;
+    nest(1, patterns.height)?;
+    let part = applied(alloc, constructor, patterns)?;
+    Ok(Some(Twin::Pattern(part)))
+}
+
+/// No parts yet, where patterns may stand.
+pub fn no_parts(alloc: Global, may_bind: bool) -> Option<Parts<Pat>> {
+    if may_bind {
+        Some(Parts::new(alloc))
+    } else {
+        None
+    }
+}
+
+/// One part more with the comma behind it, while there are patterns.
+pub fn one_part_more(
+    alloc: Global,
+    parts: Option<Parts<Pat>>,
+    twin: Option<Twin>,
+    comma: &Item,
+) -> Result<Option<Parts<Pat>>, AllocError> {
+    let Some(mut parts) = parts else {
+        return Ok(None);
+    };
+    let Some(twin) = twin else {
+        return Ok(None);
+    };
+    let part = pattern_of(alloc, twin)?;
+    let comma = comma.clone()?;
+    parts.push(part, Some(comma))?;
+    Ok(Some(parts))
+}
+
+pub fn group_of(
+    alloc: Global,
+    left: &Item,
+    twin: Option<Twin>,
+    right: &Item,
+) -> Result<Option<Twin>, Stop> {
+    let Some(twin) = twin else {
+        return Ok(None);
+    };
+    let part = pattern_of(alloc, twin)?;
+    nest(1, part.height)?;
+    let left = left.clone()?;
+    let right = right.clone()?;
+    let part = group(alloc, left, part, right)?;
+    Ok(Some(Twin::Pattern(part)))
+}
+
+/// The tuple with its last part.
+pub fn tuple_of(
+    alloc: Global,
+    left: &Item,
+    parts: Option<Parts<Pat>>,
+    twin: Option<Twin>,
+    right: &Item,
+) -> Result<Option<Twin>, Stop> {
+    let Some(mut parts) = parts else {
+        return Ok(None);
+    };
+    let Some(twin) = twin else {
+        return Ok(None);
+    };
+    let last = pattern_of(alloc, twin)?;
+    parts.push(last, None)?;
+    nest(1, parts.height)?;
+    let left = left.clone()?;
+    let right = right.clone()?;
+    let part = tuple(alloc, left, parts, right)?;
+    Ok(Some(Twin::Pattern(part)))
+}
+
+/// The list with its last part.
+pub fn list_of(
+    alloc: Global,
+    left: &Item,
+    parts: Option<Parts<Pat>>,
+    twin: Option<Twin>,
+    right: &Item,
+) -> Result<Option<Twin>, Stop> {
+    let Some(mut parts) = parts else {
+        return Ok(None);
+    };
+    let Some(twin) = twin else {
+        return Ok(None);
+    };
+    let last = pattern_of(alloc, twin)?;
+    parts.push(last, None)?;
+    nest(1, parts.height)?;
+    let left = left.clone()?;
+    let right = right.clone()?;
+    let part = list(alloc, left, parts, right)?;
+    Ok(Some(Twin::Pattern(part)))
+}
+
+/// No operands yet, where patterns may stand.
+pub fn no_operands(alloc: Global, may_bind: bool) -> Option<Operands<Pat>> {
+    if may_bind {
+        Some(Operands::new(alloc))
+    } else {
+        None
+    }
+}
+
+/// One operand more with the constructor's operator behind it, while there are patterns.
+pub fn one_operand_more(
+    alloc: Global,
+    operands: Option<Operands<Pat>>,
+    minus: Option<&Item>,
+    twin: Option<Twin>,
+    operator: &Operator,
+) -> Result<Option<Operands<Pat>>, AllocError> {
+    let Some(mut operands) = operands else {
+        return Ok(None);
+    };
+    let Some(twin) = twin else {
+        return Ok(None);
+    };
+    let Some(part) = operand_of(alloc, minus, twin)? else {
+        return Ok(None);
+    };
+    let operator = same_operator(operator)?;
+    operands.push(None, part, Some(operator))?;
+    Ok(Some(operands))
+}
+
+/// The sequence with its last operand.
+pub fn sequence_of(
+    alloc: Global,
+    operands: Option<Operands<Pat>>,
+    minus: Option<&Item>,
+    twin: Option<Twin>,
+) -> Result<Option<Twin>, Stop> {
+    let Some(operands) = operands else {
+        return Ok(None);
+    };
+    let Some(twin) = twin else {
+        return Ok(None);
+    };
+    if operands.is_empty() && minus.is_none() {
+        return Ok(Some(twin));
+    }
+    let Some(last) = operand_of(alloc, minus, twin)? else {
+        return Ok(None);
+    };
+    nest(1, operands.height.max(last.height))?;
+    let part = infix(alloc, operands, last)?;
+    Ok(Some(Twin::Pattern(part)))
+}
+
+fn same_operator(operator: &Operator) -> Result<Operator, AllocError> {
+    match operator {
+        Operator::Symbol(symbol) => Ok(Operator::Symbol(symbol.clone()?)),
+        Operator::Quoted(left, name, right) => Ok(Operator::Quoted(
+            left.clone()?,
+            name.clone()?,
+            right.clone()?,
+        )),
+    }
+}
+
+/// The same number in a pattern, where one may stand.
+pub fn number_twin(number: &Item, may_bind: bool) -> Result<Option<Twin>, AllocError> {
+    if !may_bind {
+        return Ok(None);
+    }
+    let number = number.clone()?;
+    Ok(Some(Twin::Number(number)))
+}
+
+pub fn literal_twin(
+    alloc: Global,
+    literal: &Item,
+    may_bind: bool,
+) -> Result<Option<Twin>, AllocError> {
+    if !may_bind {
+        return Ok(None);
+    }
+    let literal = literal.clone()?;
+    let part = leaf(alloc, Pat::Literal(literal))?;
+    Ok(Some(Twin::Pattern(part)))
+}
+
+/// The same variable as a pattern, where one may stand.
+pub fn bound_twin(
+    alloc: Global,
+    variable: &Variable,
+    may_bind: bool,
+) -> Result<Option<Twin>, AllocError> {
+    if !may_bind {
+        return Ok(None);
+    }
+    let bound = same_variable(variable)?;
+    let part = leaf(alloc, Pat::Variable(bound))?;
+    Ok(Some(Twin::Pattern(part)))
+}
+
+fn same_variable(variable: &Variable) -> Result<Variable, AllocError> {
+    match variable {
+        Variable::Name(name) => Ok(Variable::Name(name.clone()?)),
+        Variable::Symbol(left, symbol, right) => Ok(Variable::Symbol(
+            left.clone()?,
+            symbol.clone()?,
+            right.clone()?,
+        )),
+    }
+}
+
+/// The same constructor in a pattern, where one may stand.
+pub fn named_twin(named: &Constructor, may_bind: bool) -> Result<Option<Twin>, AllocError> {
+    if !may_bind {
+        return Ok(None);
+    }
+    let named = same_constructor(named)?;
+    Ok(Some(Twin::Named(named)))
+}
+
+fn same_constructor(named: &Constructor) -> Result<Constructor, AllocError> {
+    match named {
+        Constructor::Name(name) => Ok(Constructor::Name(name.clone()?)),
+        Constructor::Symbol(left, symbol, right) => Ok(Constructor::Symbol(
+            left.clone()?,
+            symbol.clone()?,
+            right.clone()?,
+        )),
+        Constructor::Unit(left, right) => Ok(Constructor::Unit(left.clone()?, right.clone()?)),
+        Constructor::EmptyList(left, right) => {
+            Ok(Constructor::EmptyList(left.clone()?, right.clone()?))
+        }
+        Constructor::Tuple(left, commas, right) => Ok(Constructor::Tuple(
+            left.clone()?,
+            commas.clone()?,
+            right.clone()?,
+        )),
+    }
+}
+
+/// Stops, where no pattern may stand.
+pub fn refused<T: Drop>(found: Option<T>) -> Result<T, Stop> {
+    match found {
+        None => Err(Stop::Syntax),
+        Some(found) => Ok(found),
+    }
+}
