@@ -1,5 +1,5 @@
 use crate::imports::{edges, names};
-use crate::{LoadError, Modules, Project};
+use crate::{LoadError, Project};
 use hr_base::Text;
 use hr_exports::close;
 use hr_grading::{Fixities, grade};
@@ -26,8 +26,8 @@ pub fn check(alloc: Global, texts: &[Text]) -> Result<Project, LoadError> {
 }
 
 /// The trees of the texts, and then of Prelude and Char.
-pub fn read_all(alloc: Global, texts: &[Text]) -> Result<Modules, LoadError> {
-    let mut trees = Modules::new(alloc);
+pub fn read_all(alloc: Global, texts: &[Text]) -> Result<Vec<Module>, LoadError> {
+    let mut trees = Vec::new(alloc);
     for (text, bytes) in texts.iter().enumerate() {
         read(alloc, &mut trees, text, bytes.as_slice())?;
     }
@@ -38,14 +38,18 @@ pub fn read_all(alloc: Global, texts: &[Text]) -> Result<Modules, LoadError> {
 }
 
 /// Reads the text of that number.
-fn read(alloc: Global, trees: &mut Modules, text: usize, bytes: &[u8]) -> Result<(), LoadError> {
+fn read(alloc: Global, trees: &mut Vec<Module>, text: usize, bytes: &[u8]) -> Result<(), LoadError> {
     match lex(alloc, bytes) {
         Err(error) => Err(LoadError::lexing(text, error)),
         Ok(items) => match parse(alloc, items) {
             Err(error) => Err(LoadError::parsing(text, error)),
-            Ok(tree) => Ok(trees.push(tree)?),
+            Ok(tree) => Ok(keep(trees, tree)?),
         },
     }
+}
+
+fn keep(trees: &mut Vec<Module>, tree: Module) -> Result<(), AllocError> {
+    Ok(trees.push(tree)?)
 }
 
 /// What the modules export and see, and what their names are bound to.

@@ -4,11 +4,9 @@
 mod checking;
 mod error;
 mod imports;
-mod modules;
 mod project;
 
 pub use checking::{check, read_all};
-pub use imports::{edges, names};
 pub use error::LoadError;
-pub use modules::Modules;
+pub use imports::{edges, names};
 pub use project::Project;

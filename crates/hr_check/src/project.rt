@@ -1,4 +1,3 @@
-use crate::Modules;
 use hr_base::Text;
 use hr_tables::{Bindings, Interfaces};
 use hr_tree::Module;
@@ -7,7 +6,7 @@ use hr_tree::Module;
 #[derive(Drop)]
 pub struct Project {
     pub(crate) texts: Vec<Text>,
-    pub(crate) trees: Modules,
+    pub(crate) trees: Vec<Module>,
     pub(crate) interfaces: Interfaces,
     pub(crate) bindings: Bindings,
 }
