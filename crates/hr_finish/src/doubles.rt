@@ -2,7 +2,6 @@
 //! two definitions.
 
 use hr_base::{Binder, Seq, Spot};
-use hr_check::Project;
 use hr_draft::{Draft, Drafted, Origin};
 use hr_outline::{Mark, outline_of};
 use hr_scope_rules::Role;
@@ -10,71 +9,65 @@ use hr_tables::Bindings;
 use hr_tree::Module;
 use std::alloc::{AllocError, Global};
 
-/// The first two lexemes of the target that declare one spelling, and what names are bound to if the second definition
-/// counts as one of its own.
-#[derive(Drop)]
-pub struct Merged {
-    pub first: Option<(Spot, Spot)>,
-    pub also: Bindings,
+/// Two lexemes of the target that declare one spelling.
+#[derive(Clone, Copy, Debug, PartialEq, Eq)]
+pub struct Double {
+    pub first: Spot,
+    pub second: Spot,
 }
 
-/// The definitions of the target that are merged.
+/// The definitions of the target that are merged: the lexeme that declares, and the first one of the definition that
+/// goes on.
 pub fn merged_definitions(
     alloc: Global,
-    old: &Project,
+    old: &[Module],
     new: &[Module],
     drafts: &[Draft],
-    bindings: &Bindings,
-) -> Result<Merged, AllocError> {
-    let mut pairs = Vec::new(alloc);
+) -> Result<Vec<Double>, AllocError> {
+    let mut doubles = Vec::new(alloc);
     for draft in drafts {
-        if let (Some(before), Some(after)) = (
-            old.modules().get(draft.module),
-            new.get(draft.module),
-        ) {
-            add_pairs(alloc, &mut pairs, before, after, draft)?;
+        if let (Some(before), Some(after)) = (old.get(draft.module), new.get(draft.module)) {
+            add_merged(alloc, &mut doubles, before, after, draft)?;
         }
     }
-    Ok(Merged {
-        first: pairs.as_slice().first().copied(),
-        also: also_bound(alloc, bindings, pairs.as_slice())?,
-    })
+    Ok(doubles)
 }
 
-/// Adds the pairs of a module: the declaring lexeme of the definition that goes on, and the one that declared before.
-fn add_pairs(
+/// Adds those of a module.
+fn add_merged(
     alloc: Global,
-    pairs: &mut Vec<(Spot, Spot)>,
+    doubles: &mut Vec<Double>,
     before: &Module,
     after: &Module,
     draft: &Draft,
 ) -> Result<(), AllocError> {
     let old = outline_of(alloc, before)?;
     let new = outline_of(alloc, after)?;
-    for (item, (mark, drafted)) in new
-        .marks
-        .as_slice()
-        .iter()
-        .zip(draft.lexemes.as_slice().iter())
-        .enumerate()
-    {
-        let spot = Spot {
-            module: draft.module,
-            item,
-        };
-        match mark.role {
-            Role::GoesOn if declares(old.marks.as_slice(), drafted) => {
-                if let Some(first) = declared_before(new.marks.as_slice(), item, draft.module) {
-                    pairs.push((first, spot))?;
-                }
+    let marks = new.marks.as_slice();
+    for (item, (mark, drafted)) in marks.iter().zip(draft.lexemes.as_slice().iter()).enumerate() {
+        if mark.role == Role::GoesOn && declares(old.marks.as_slice(), drafted) {
+            if let Some(first) = declared_before(marks, item) {
+                doubles.push(double_in(draft.module, first, item))?;
             }
-            _ => {}
         }
     }
     Ok(())
 }
 
-/// Whether the lexeme of the draft declared something before the step.
+fn double_in(module: usize, first: usize, second: usize) -> Double {
+    Double {
+        first: Spot {
+            module,
+            item: first,
+        },
+        second: Spot {
+            module,
+            item: second,
+        },
+    }
+}
+
+/// Whether the lexeme of the draft declared something before the step, or is new.
 fn declares(marks: &[Mark<'_>], drafted: &Drafted) -> bool {
     match drafted.origin {
         Origin::Kept(spot) => match marks.get(spot.item) {
@@ -86,52 +79,92 @@ fn declares(marks: &[Mark<'_>], drafted: &Drafted) -> bool {
 }
 
 /// The last lexeme before the number that declares its spelling in its region.
-fn declared_before(marks: &[Mark<'_>], number: usize, module: usize) -> Option<Spot> {
+fn declared_before(marks: &[Mark<'_>], number: usize) -> Option<usize> {
     let here = marks.get(number)?;
     let mut found = None;
     for (item, mark) in marks.iter().enumerate() {
-        if item < number
-            && matches!(mark.role, Role::Declares(_))
+        if item == number {
+            return found;
+        }
+        if matches!(mark.role, Role::Declares(_))
             && mark.region == here.region
             && mark.item.lexeme.text == here.item.lexeme.text
         {
-            found = Some(Spot { module, item });
+            found = Some(item);
         }
     }
     found
 }
 
-/// For each lexeme that is bound to the first of a pair, the second one.
-fn also_bound(
+/// What else names are bound to, where the second definition of a double counts as one of its own: its binder for each
+/// name that is bound to the first, and for all others what they had in `also`.
+pub fn also_bound(
     alloc: Global,
-    bindings: &Bindings,
-    pairs: &[(Spot, Spot)],
+    one: &Bindings,
+    also: Bindings,
+    doubles: &[Double],
 ) -> Result<Bindings, AllocError> {
-    let mut list = Vec::new(alloc);
-    if pairs.is_empty() {
-        return Ok(Bindings {
-            modules: Seq { list },
-        });
+    if doubles.is_empty() {
+        return Ok(also);
     }
-    for entries in bindings.modules.as_slice() {
-        let mut also = Vec::with_capacity(alloc, entries.len())?;
-        for entry in entries.as_slice() {
-            also.push(second_of(pairs, entry))?;
-        }
-        list.push(Seq { list: also })?;
+    let mut list = Vec::new(alloc);
+    for (module, entries) in one.modules.as_slice().iter().enumerate() {
+        let others = match also.modules.as_slice().get(module) {
+            Some(others) => others.as_slice(),
+            None => &[],
+        };
+        list.push(seconds(alloc, entries.as_slice(), others, doubles)?)?;
     }
     Ok(Bindings {
         modules: Seq { list },
     })
 }
 
-fn second_of(pairs: &[(Spot, Spot)], entry: &Option<Binder>) -> Option<Binder> {
+/// The same of a module.
+fn seconds(
+    alloc: Global,
+    entries: &[Option<Binder>],
+    others: &[Option<Binder>],
+    doubles: &[Double],
+) -> Result<Seq<Option<Binder>>, AllocError> {
+    let mut list = Vec::with_capacity(alloc, entries.len())?;
+    for (item, entry) in entries.iter().enumerate() {
+        let second = match second_of(doubles, entry) {
+            Some(binder) => Some(binder),
+            None => other_at(others, item)?,
+        };
+        list.push(second)?;
+    }
+    Ok(Seq { list })
+}
+
+fn other_at(others: &[Option<Binder>], item: usize) -> Result<Option<Binder>, AllocError> {
+    match others.get(item) {
+        Some(Some(binder)) => Ok(Some(binder.clone()?)),
+        _ => Ok(None),
+    }
+}
+
+/// The binder of the second definition of a double, the first of which the entry has.
+fn second_of(doubles: &[Double], entry: &Option<Binder>) -> Option<Binder> {
     if let Some(Binder::Local(spot)) = entry {
-        for (first, second) in pairs {
-            if first == spot {
-                return Some(Binder::Local(*second));
+        for double in doubles {
+            if double.first == *spot {
+                return Some(Binder::Local(double.second));
             }
         }
     }
     None
+}
+
+/// The double whose second lexeme comes first.
+pub fn first_double(doubles: &[Double]) -> Option<Double> {
+    let mut first: Option<Double> = None;
+    for double in doubles {
+        first = Some(match first {
+            Some(other) if other.second <= double.second => other,
+            _ => *double,
+        });
+    }
+    first
 }

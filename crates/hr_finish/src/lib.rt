@@ -2,10 +2,13 @@
 //! what the step means.
 #![tactic(auto)]
 
+mod clashes;
 mod command;
 mod doubles;
 mod finishing;
 mod judging;
+mod meanings;
+mod rereading;
 mod shown;
 mod writing;
 

@@ -9,5 +9,5 @@ mod trivia;
 
 pub use blocks::are_blocks_kept;
 pub use lexemes::are_lexemes_read;
-pub use names::{Found, NameMap, Rebound, first_rebound};
+pub use names::{Found, NameMap, Rebound, binder_at, first_rebound};
 pub use trivia::{does_trivia_stay, may_stand_for};

@@ -1,35 +1,97 @@
 //! Whether blanks and comments stay.
 ghost use Rattle.std.specs.Prelude.{◌≡◌, ◌≤◌, ◌<◌, length};
-ghost use Rattle.hr_step.specs.Trivia.{are_blanks, behind_newline, front_behind, front_len, is_blank, is_one_blank_more, may_be_indented, may_stand_for};
+ghost use Rattle.hr_step.specs.Trivia.{are_blanks, behind_newline, front_behind, does_tail_stay, does_trivia_stay, front_len, is_blank, is_end, is_number, is_one_blank_more, may_be_indented, may_end_for, may_stand_for, number_behind, stays_at, stays_here};
 
 use crate::kept::kept_number;
-use hr_base::Item;
+use hr_base::{Item, Items, Text};
 use hr_draft::Drafted;
 use hr_rules::has_newline;
 
-/// Whether what stands before each kept lexeme stays, where the lexeme before it is the one that it had.
-pub fn does_trivia_stay(old: &[Item], draft: &[Drafted], new: &[Item]) -> bool {
-    let mut follows = Some(0);
-    for (drafted, item) in draft.iter().zip(new.iter()) {
+/// Whether what stands before each kept lexeme stays, where the lexeme before it is the one that it had; and so what is
+/// behind the last lexeme.
+pub fn does_trivia_stay(old: &Items, draft: &[Drafted], new: &Items) -> bool
+    ensures { result ≡ does_trivia_stay old.now draft.now new.now }
+{
+    let mut behind = Some(0);
+    let mut left = new.list.as_slice();
+    for drafted in draft {
+        let [item, rest @ ..] = left else {
+            return false;
+        };
         let number = kept_number(drafted);
-        if number.is_some() && number == follows && !stays_at(old, number, item) {
+        if !stays_here(old.list.as_slice(), behind, number, item) {
             return false;
         }
-        follows = number.map(|number| number.saturating_add(1));
+        behind = number_behind(number);
+        left = rest;
     }
-    true
+    does_tail_stay(old, behind, &new.tail)
 }
 
-/// Whether the trivia of the old lexeme of the number stays before the new one.
-fn stays_at(old: &[Item], number: Option<usize>, new: &Item) -> bool {
-    match number.and_then(|number| old.get(number)) {
-        Some(item) => may_stand_for(
-            item.trivia.as_slice(),
-            new.trivia.as_slice(),
-            number == Some(0),
-        ),
+/// The number of the old lexeme that stood behind the one of the number.
+fn number_behind(number: Option<usize>) -> Option<usize>
+    ensures { result ≡ number_behind number }
+{
+    match number {
+        Some(number) => Some(number.saturating_add(1)),
+        None => None,
+    }
+}
+
+fn is_number(behind: Option<usize>, number: usize) -> bool
+    ensures { result ≡ is_number behind number }
+{
+    match behind {
+        Some(behind) => behind == number,
         None => false,
     }
+}
+
+/// Whether the trivia of the old lexeme of the number stays before the new one, where that is the lexeme that stood
+/// behind the one before it.
+fn stays_here(old: &[Item], behind: Option<usize>, number: Option<usize>, new: &Item) -> bool
+    ensures { result ≡ stays_here old.now behind number new.now }
+{
+    match number {
+        Some(number) => {
+            if is_number(behind, number) {
+                stays_at(old, number, new)
+            } else {
+                true
+            }
+        }
+        None => true,
+    }
+}
+
+fn stays_at(old: &[Item], number: usize, new: &Item) -> bool
+    ensures { result ≡ stays_at old.now number new.now }
+{
+    match old.get(number) {
+        Some(item) => may_stand_for(item.trivia.as_slice(), new.trivia.as_slice(), number == 0),
+        None => false,
+    }
+}
+
+/// Whether what is behind the last lexeme stays, where that lexeme is the last one of the old text too.
+fn does_tail_stay(old: &Items, behind: Option<usize>, new: &Text) -> bool
+    ensures { result ≡ does_tail_stay old.now behind new.now }
+{
+    if is_number(behind, old.list.len()) {
+        may_end_for(old.tail.as_slice(), new.as_slice())
+    } else {
+        true
+    }
+}
+
+/// Byte for byte, or with one blank more in front.
+fn may_end_for(old: &[u8], new: &[u8]) -> bool
+    ensures { result ≡ may_end_for old.now new.now }
+{
+    if old == new {
+        return true;
+    }
+    is_one_blank_more(old, new)
 }
 
 /// Whether the new trivia stays as the old one: byte for byte, or with one blank more in front; before a lexeme that
@@ -71,7 +133,7 @@ fn may_be_indented(old: &[u8], new: &[u8]) -> bool
     begin == front && are_blanks(behind_newline(rest))
 }
 
-/// The number of bytes before the blanks that the bytes end with.
+/// The number of bytes before the blanks that blanks and comments end with.
 fn front_len(bytes: &[u8]) -> usize
     ensures value { result ≡ front_len bytes.now }
     ensures within { result ≤ length bytes.now }
@@ -88,7 +150,14 @@ fn front_behind(front: usize, place: usize, byte: u8) -> usize
     requires { place < usize.MAX }
     ensures { result ≡ front_behind front place byte }
 {
-    if is_blank(byte) { front } else { place + 1 }
+    if is_end(byte) { place + 1 } else { front }
+}
+
+/// Whether the byte ends a line or may end a comment: what is behind the last one is blanks, those beyond ASCII too.
+fn is_end(byte: u8) -> bool
+    ensures { result ≡ is_end byte }
+{
+    byte == b'\n' || byte == b'\r' || byte == 0x0C || byte == b'}'
 }
 
 fn are_blanks(bytes: &[u8]) -> bool

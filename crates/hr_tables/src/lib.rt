@@ -7,7 +7,7 @@ mod same;
 mod seen;
 
 pub use bindings::Bindings;
-pub use same::is_same_binder;
+pub use same::{is_same_binder, is_same_entity};
 pub use seen::{Interfaces, Seen};
 
 #[cfg(test)]

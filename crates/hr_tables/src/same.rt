@@ -18,7 +18,7 @@ pub fn is_same_binder(left: &Binder, right: &Binder) -> bool
 }
 
 /// Whether two entities are one.
-fn is_same_entity(left: &Entity, right: &Entity) -> bool
+pub fn is_same_entity(left: &Entity, right: &Entity) -> bool
     ensures exact { IsTrue result ↔ (left.now ≡ right.now) }
     ensures test { result ≡ same_entity left.now right.now }
 {
