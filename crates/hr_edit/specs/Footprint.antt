@@ -1,9 +1,12 @@
 -- The footprint of a draft: each old lexeme that is missing or respelled, and each before which another lexeme stands
 -- than did. What is behind the last lexeme counts as one more. A number beyond 64 bits stays at the greatest one.
-use Rattle.std.specs.Prelude.{ℕ, ◌+◌, ◌-◌, ◌^◌, min, Bool, true, false, ◌==◌, nat_lt, List, [], ◌∷◌, ◌++◌, length, take, drop, Option, Some, None, if◌then◌else◌}
+use Rattle.std.specs.Prelude.{ℕ, ◌+◌, ◌-◌, ◌^◌, min, Bool, true, false, ◌==◌, nat_lt, List, [], ◌∷◌, ◌++◌, length, take, drop, slice_get, Option, Some, None, if◌then◌else◌}
 use Rattle.hr_base.specs.declared.place.Spot.{Spot}
 use Rattle.hr_base.specs.declared.lexeme.Item.{Item}
+use Rattle.hr_tree.specs.declared.modules.Module.{Module}
+use Rattle.hr_tree.specs.Yields.{items_of}
 use Rattle.hr_draft.specs.declared.draft.Origin.{Origin}
+use Rattle.hr_draft.specs.declared.draft.Draft.{Draft}
 use Rattle.hr_draft.specs.declared.draft.Drafted.{Drafted}
 use Rattle.hr_draft.specs.Same.{same_lexeme}
 
@@ -93,3 +96,12 @@ touched_from «module» next follows left [] = touched_behind «module» next fo
 touched_from «module» next follows left (drafted ∷ draft) =
     touched_at «module» next follows left drafted
     ++ touched_from «module» (next_behind next left drafted) (follows_behind next left drafted) (left_behind next left drafted) draft
+
+abbrev pub touched_in : Option Module → Draft → List Spot
+touched_in None draft = []
+touched_in (Some tree) draft = touched_from draft.«module» 0 true (items_of tree).list draft.lexemes
+
+-- the lexemes that the drafts touch, module by module
+abbrev pub all_touched : List Module → List Draft → List Spot
+all_touched modules [] = []
+all_touched modules (draft ∷ drafts) = touched_in (slice_get modules draft.«module») draft ++ all_touched modules drafts

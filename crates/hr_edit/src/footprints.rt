@@ -1,9 +1,11 @@
 //! The lexemes that edits touch.
-ghost use Rattle.std.specs.Prelude.{◌≡◌, ◌<◌, [], ◌∷◌, ◌++◌, true, drop, length, IfSome, OnOk};
-ghost use Rattle.hr_edit.specs.Footprint.{ahead, follows_behind, is_first, kept_number, left_behind, next_behind, spot_at, spots_of, touched_at, touched_behind, touched_from};
+ghost use Rattle.std.specs.Prelude.{◌≡◌, ◌<◌, [], ◌∷◌, ◌++◌, true, drop, length, IfOk, IfSome, OnOk};
+ghost use Rattle.hr_tree.specs.Yields.{items_of};
+ghost use Rattle.hr_edit.specs.Drafts.{applied};
+ghost use Rattle.hr_edit.specs.Footprint.{ahead, all_touched, follows_behind, is_first, kept_number, left_behind, next_behind, spot_at, spots_of, touched_at, touched_behind, touched_from};
 
 use crate::Edit;
-use crate::drafts::{apply, draft_of};
+use crate::drafts::apply;
 use hr_base::{Item, Seq, Spot};
 use hr_draft::{Draft, Drafted, Origin, is_same_lexeme};
 use hr_tree::{Module, items};
@@ -11,20 +13,30 @@ use std::alloc::{AllocError, Global};
 
 /// The old lexemes that the edits touch, in text order: those that go or are respelled, and those that
 /// another lexeme stands before than did. The number behind a module's lexemes stands for its tail.
-pub fn footprint(
-    alloc: Global,
-    modules: &[Module],
-    edits: &[Edit],
-) -> Result<Seq<Spot>, AllocError> {
+pub fn footprint(alloc: Global, modules: &[Module], edits: &[Edit]) -> Result<Seq<Spot>, AllocError>
+    ensures { IfOk result (λ spots. spots ≡ all_touched modules.now (applied 0 modules.now edits.now)) }
+{
     let drafts = apply(alloc, modules, edits)?;
     let mut spots = Vec::new(alloc);
     for draft in drafts.as_slice() {
         if let Some(tree) = modules.get(draft.module) {
-            let old = items(alloc, tree)?;
-            touched(old.list.as_slice(), draft, &mut spots)?;
+            add_touched_in(alloc, tree, draft, &mut spots)?;
         }
     }
     Ok(Seq { list: spots })
+}
+
+/// Adds the lexemes that the draft touches of the module that has this tree.
+fn add_touched_in(
+    alloc: Global,
+    tree: &Module,
+    draft: &Draft,
+    spots: &mut Vec<Spot>,
+) -> Result<(), AllocError>
+    ensures { OnOk result (spots.new.items ≡ spots.old.items ++ touched_from draft.now.«module» 0 true (items_of tree.now).list draft.now.lexemes) }
+{
+    let old = items(alloc, tree)?;
+    touched(old.list.as_slice(), draft, spots)
 }
 
 /// How far the old lexemes of a module are passed: the number of the next one, those that are left, and whether the
