@@ -1,8 +1,18 @@
 //! Names and operators in parentheses as atoms: the Haskell 98 Report, section 3.2.
+ghost use Rattle.std.specs.Prelude.{IfOk, false, true};
+ghost use Rattle.hr_base.specs.declared.lexeme.Ending.{Ending};
+ghost use Rattle.hr_layout.specs.Standing.{Standing};
+ghost use Rattle.hr_tree.specs.Names.{constructor_items, variable_items};
+ghost use Rattle.hr_grammar.specs.Spelled.{IsConstructor, IsNamedVariable, IsVariable};
+ghost use Rattle.hr_grammar.specs.Nodes.{Colons, ExpPlace, PatPlace};
+ghost use Rattle.hr_parse_lexeme.specs.Reads.{Spells};
+ghost use Rattle.hr_parse_brackets.specs.Atoms.{IsParenthesized};
+ghost use Rattle.hr_parse_parts.specs.Parts.{EndsExp, MayTwin};
+ghost use Rattle.hr_parse_parts.specs.Steps.{Steps, Wanted};
 
 use hr_base::Item;
 use hr_layout::Cursor;
-use hr_parse_lexeme::{Kind, Mark, Notes, Stop, is_next};
+use hr_parse_lexeme::{Held, Kind, Mark, Notes, Stop, is_next};
 use hr_parse_nodes::nodes::node;
 use hr_parse_parts::{
     APPLIED, Step, Twin, bound_twin, done_expression, done_pattern, named_twin, operand,
@@ -17,26 +27,25 @@ pub fn variable(
     cursor: &mut Cursor,
     notes: &mut Notes,
     depth: u32,
-    name: Variable,
+    name: Held<Variable>,
     may_bind: bool,
-) -> Result<Step, Stop> {
+) -> Result<Step, Stop>
+    ensures { IfOk result (λ step. (before : Standing) → Spells IsVariable variable_items name before cursor.old → Steps Wanted.Atom step before cursor.new) }
+{
     if may_bind && is_next(cursor, Mark::At) {
-        let part = bound_at(alloc, cursor, notes, depth, name)?;
+        let part = bound_at(alloc, cursor, notes, depth, name.take())?;
         notes.whole(cursor.pos());
         return Ok(done_pattern(part));
     }
-    let twin = bound_twin(alloc, &name, may_bind)?;
-    let exp = node(alloc, Exp::Variable(name), 0)?;
+    let twin = bound_twin(alloc, name.get(), may_bind)?;
+    let exp = node(alloc, Exp::Variable(name.take()), 0)?;
     Ok(whole(cursor, notes, exp, twin))
 }
 
 /// A variable of an expression alone.
-pub fn used(
-    alloc: Global,
-    cursor: &Cursor,
-    notes: &mut Notes,
-    name: Variable,
-) -> Result<Step, Stop> {
+pub fn used(alloc: Global, cursor: &Cursor, notes: &mut Notes, name: Variable) -> Result<Step, Stop>
+    ensures { IfOk result (λ step. (before : Standing) → Spells IsNamedVariable variable_items name before cursor.now → Steps Wanted.Atom step before cursor.now) }
+{
     let exp = node(alloc, Exp::Variable(name), 0)?;
     Ok(whole(cursor, notes, exp, None))
 }
@@ -45,11 +54,13 @@ pub fn constructor(
     alloc: Global,
     cursor: &Cursor,
     notes: &mut Notes,
-    named: Constructor,
+    named: Held<Constructor>,
     may_bind: bool,
-) -> Result<Step, Stop> {
-    let twin = named_twin(&named, may_bind)?;
-    let exp = node(alloc, Exp::Constructor(named), 0)?;
+) -> Result<Step, Stop>
+    ensures { IfOk result (λ step. (before : Standing) → Spells IsConstructor constructor_items named before cursor.now → Steps Wanted.Atom step before cursor.now) }
+{
+    let twin = named_twin(named.get(), may_bind)?;
+    let exp = node(alloc, Exp::Constructor(named.take()), 0)?;
     Ok(whole(cursor, notes, exp, twin))
 }
 
@@ -70,7 +81,9 @@ pub(crate) fn symbol(
     depth: u32,
     name: Parenthesized,
     may_bind: bool,
-) -> Result<Step, Stop> {
+) -> Result<Step, Stop>
+    ensures { IfOk result (λ step. (before : Standing) → IsParenthesized name before cursor.old → Steps Wanted.Atom step before cursor.new) }
+{
     let Parenthesized {
         left,
         symbol,
@@ -79,25 +92,27 @@ pub(crate) fn symbol(
     } = name;
     match kind {
         Kind::Minus => {
-            let name = Variable::Symbol(left, symbol, right);
+            let name = Held::new(Variable::Symbol(left, symbol, right));
             variable(alloc, cursor, notes, depth, name, may_bind)
         }
         Kind::VariableSymbol => {
-            let name = Variable::Symbol(left, symbol, right);
+            let name = Held::new(Variable::Symbol(left, symbol, right));
             variable(alloc, cursor, notes, depth, name, may_bind)
         }
         Kind::QualifiedVariableSymbol => {
             used(alloc, cursor, notes, Variable::Symbol(left, symbol, right))
         }
         _ => {
-            let named = Constructor::Symbol(left, symbol, right);
+            let named = Held::new(Constructor::Symbol(left, symbol, right));
             constructor(alloc, cursor, notes, named, may_bind)
         }
     }
 }
 
 /// An atom that is whole.
-pub fn whole(cursor: &Cursor, notes: &mut Notes, part: Part<Exp>, twin: Option<Twin>) -> Step {
+pub fn whole(cursor: &Cursor, notes: &mut Notes, part: Part<Exp>, twin: Option<Held<Twin>>) -> Step
+    ensures { (before after : Standing) → ((free : Colons) → EndsExp free ExpPlace.Atom part.height part.tree (Ending.Applied true false) before after) → MayTwin PatPlace.Atomic twin before after → Steps Wanted.Atom result before after }
+{
     notes.whole(cursor.pos());
     done_expression(operand(part, APPLIED, twin))
 }

@@ -1,4 +1,19 @@
 //! Infix sequences, with `::` and a type behind them: the Haskell 98 Report, sections 3, 3.4 and 3.16.
+ghost use Rattle.std.specs.Prelude.{IfOk, Some, ◌≡◌};
+ghost use Rattle.std.specs.Option.{option_map};
+ghost use Rattle.hr_layout.specs.Standing.{Standing};
+ghost use Rattle.hr_tree.specs.Names.{operator_items};
+ghost use Rattle.hr_grammar.specs.Words.{IsMinus};
+ghost use Rattle.hr_grammar.specs.Spelled.{IsOperator};
+ghost use Rattle.hr_grammar.specs.Nodes.{PatPlace};
+ghost use Rattle.hr_parse_lexeme.specs.Reads.{Accepts, Spells};
+ghost use Rattle.hr_parse_pattern.specs.Patterns.{ReadsPat};
+ghost use Rattle.hr_parse_parts.specs.declared.place.Annotations.{Annotations};
+ghost use Rattle.hr_parse_parts.specs.Lists.{MayOperands, ReadsOperands};
+ghost use Rattle.hr_parse_parts.specs.Parts.{MayTwin, ReadsOperand, ReadsSequence};
+ghost use Rattle.hr_parse_parts.specs.Places.{colons_of};
+ghost use Rattle.hr_parse_parts.specs.Steps.{ReadsValue, Steps, Wanted};
+ghost use Rattle.hr_parse_parts.specs.Waits.{WaitsOperand};
 
 use hr_base::Item;
 use hr_layout::Cursor;
@@ -17,12 +32,9 @@ use hr_tree::{Exp, Operator, Pat};
 use std::alloc::{AllocError, Global};
 
 /// A sequence begins. Only an integer makes a pattern of a minus before it.
-pub fn begin_sequence(
-    alloc: Global,
-    cursor: &mut Cursor,
-    place: Place,
-    minus: Option<Item>,
-) -> Step {
+pub fn begin_sequence(alloc: Global, cursor: &mut Cursor, place: Place, minus: Option<Item>) -> Step
+    ensures { (before : Standing) → Accepts IsMinus minus before cursor.old → Steps (Wanted.Sequence place.annotations) result before cursor.new }
+{
     let minus = minus_before(cursor, minus);
     let may_bind = place.may_bind && may_negate(cursor, &minus);
     let first = first_place(place, &minus).binding(may_bind);
@@ -36,7 +48,9 @@ pub fn begin_sequence(
 }
 
 /// The minus that was taken, or is there.
-fn minus_before(cursor: &mut Cursor, minus: Option<Item>) -> Option<Item> {
+fn minus_before(cursor: &mut Cursor, minus: Option<Item>) -> Option<Item>
+    ensures { (before : Standing) → Accepts IsMinus minus before cursor.old → Accepts IsMinus result before cursor.new }
+{
     match minus {
         None => accept(cursor, Mark::Minus),
         Some(minus) => Some(minus),
@@ -49,7 +63,9 @@ fn may_negate(cursor: &Cursor, minus: &Option<Item>) -> bool {
 }
 
 /// An operand alone is no sequence, and stands one node less deep.
-fn first_place(place: Place, minus: &Option<Item>) -> Place {
+fn first_place(place: Place, minus: &Option<Item>) -> Place
+    ensures { colons_of result.annotations ≡ colons_of place.annotations }
+{
     match minus {
         None => place,
         Some(_) => place.deeper(),
@@ -61,12 +77,14 @@ pub fn behind_operand(
     alloc: Global,
     cursor: &mut Cursor,
     notes: &mut Notes,
-    sequence: Sequence,
+    sequence: Held<Sequence>,
     value: Held<Value>,
-) -> Result<Step, Stop> {
+) -> Result<Step, Stop>
+    ensures { IfOk result (λ step. (before middle : Standing) → WaitsOperand sequence before middle → ReadsValue (Wanted.Operand (colons_of sequence.place.annotations)) value middle cursor.old → Steps (Wanted.Sequence sequence.place.annotations) step before cursor.new) }
+{
     match mixed_of(value)? {
-        Mixed::Expression(read) => behind_expression(alloc, cursor, notes, sequence, read.take()),
-        Mixed::Pattern(part) => pattern(alloc, cursor, notes, sequence, part),
+        Mixed::Expression(read) => behind_expression(alloc, cursor, notes, sequence, read),
+        Mixed::Pattern(part) => pattern(alloc, cursor, notes, sequence.take(), part),
     }
 }
 
@@ -77,7 +95,9 @@ fn pattern(
     notes: &mut Notes,
     sequence: Sequence,
     last: Part<Pat>,
-) -> Result<Step, Stop> {
+) -> Result<Step, Stop>
+    ensures { IfOk result (λ step. (before middle : Standing) → WaitsOperand sequence before middle → ReadsPat PatPlace.Operand last middle cursor.old → Steps (Wanted.Sequence sequence.place.annotations) step before cursor.new) }
+{
     let Sequence {
         place,
         twins,
@@ -98,14 +118,16 @@ fn behind_expression(
     alloc: Global,
     cursor: &mut Cursor,
     notes: &mut Notes,
-    sequence: Sequence,
-    read: Read,
-) -> Result<Step, Stop> {
-    if goes_on(&read) && begins_operator(kind_ahead(cursor)) {
+    sequence: Held<Sequence>,
+    read: Held<Read>,
+) -> Result<Step, Stop>
+    ensures { IfOk result (λ step. (before middle : Standing) → WaitsOperand sequence before middle → ReadsOperand (colons_of sequence.place.annotations) read middle cursor.old → Steps (Wanted.Sequence sequence.place.annotations) step before cursor.new) }
+{
+    if goes_on(read.get()) && begins_operator(kind_ahead(cursor)) {
         return joined(alloc, cursor, sequence, read);
     }
-    let place = sequence.place;
-    let read = ended(alloc, sequence, read)?;
+    let place = sequence.get().place;
+    let read = ended(alloc, sequence.take(), read.take())?;
     annotated(alloc, cursor, notes, place, read)
 }
 
@@ -114,23 +136,25 @@ fn behind_expression(
 fn joined(
     alloc: Global,
     cursor: &mut Cursor,
-    sequence: Sequence,
-    last: Read,
-) -> Result<Step, Stop> {
-    let place = sequence.place;
+    sequence: Held<Sequence>,
+    last: Held<Read>,
+) -> Result<Step, Stop>
+    ensures { IfOk result (λ step. (before middle : Standing) → WaitsOperand sequence before middle → ReadsOperand (colons_of sequence.place.annotations) last middle cursor.old → Steps (Wanted.Sequence sequence.place.annotations) step before cursor.new) }
+{
+    let place = sequence.get().place;
     if !place.has_section {
-        nest(below(place.depth), last.height)?;
+        nest(below(place.depth), last.get().height)?;
     }
-    let operator = operator(cursor)?;
+    let operator = Held::new(operator(cursor)?);
     if place.has_section && is_next(cursor, Mark::RightParen) {
-        let read = sectioned(alloc, sequence, last, operator)?;
+        let read = sectioned(alloc, sequence.take(), last.take(), operator)?;
         return Ok(done_expression(read));
     }
-    let may_bind = sequence.twins.is_some()
-        && last.twin.is_some()
-        && is_constructor_operator(&operator);
-    next_begins(cursor, place, last.height, may_bind)?;
-    one_more(alloc, cursor, sequence, last, operator)
+    let may_bind = sequence.get().twins.is_some()
+        && last.get().twin.is_some()
+        && is_constructor_operator(operator.get());
+    next_begins(cursor, place, last.get().height, may_bind)?;
+    one_more(alloc, cursor, sequence.take(), last.take(), operator)
 }
 
 /// The next operand begins, so the one before, with so many levels, stands in a sequence.
@@ -149,8 +173,10 @@ fn one_more(
     cursor: &mut Cursor,
     sequence: Sequence,
     last: Read,
-    operator: Operator,
-) -> Result<Step, Stop> {
+    operator: Held<Operator>,
+) -> Result<Step, Stop>
+    ensures { IfOk result (λ step. (before middle behind : Standing) → WaitsOperand sequence before middle → ReadsOperand (colons_of sequence.place.annotations) last middle behind → Spells IsOperator operator_items operator behind cursor.old → Steps (Wanted.Sequence sequence.place.annotations) step before cursor.new) }
+{
     let Sequence {
         place,
         mut operands,
@@ -158,8 +184,8 @@ fn one_more(
         minus,
     } = sequence;
     let Inside { part, twin } = followed(last)?;
-    let twins = more_twins(alloc, twins, minus.as_ref(), twin, &operator)?;
-    operands.push(minus, part, Some(operator))?;
+    let twins = more_twins(alloc, twins, minus.as_ref(), twin, operator.get())?;
+    operands.push(minus, part, Some(operator.take()))?;
     Ok(next_operand(cursor, place, operands, twins))
 }
 
@@ -168,9 +194,11 @@ fn more_twins(
     alloc: Global,
     twins: Option<Operands<Pat>>,
     minus: Option<&Item>,
-    twin: Option<Twin>,
+    twin: Option<Held<Twin>>,
     operator: &Operator,
-) -> Result<Option<Operands<Pat>>, AllocError> {
+) -> Result<Option<Operands<Pat>>, AllocError>
+    ensures { IfOk result (λ all. (before middle inner outer after : Standing) → MayOperands twins before middle → Accepts IsMinus (option_map (λ item. item.now) minus) middle inner → MayTwin PatPlace.Operand twin inner outer → Spells IsOperator operator_items operator.now outer after → MayOperands all before after) }
+{
     if is_constructor_operator(operator) {
         one_operand_more(alloc, twins, minus, twin, operator)
     } else {
@@ -184,7 +212,9 @@ fn next_operand(
     place: Place,
     operands: Operands<Exp>,
     twins: Option<Operands<Pat>>,
-) -> Step {
+) -> Step
+    ensures { (before : Standing) → ReadsOperands (colons_of place.annotations) operands before cursor.old → MayOperands twins before cursor.old → Steps (Wanted.Sequence place.annotations) result before cursor.new }
+{
     let minus = accept(cursor, Mark::Minus);
     let twins = kept(cursor, twins, &minus);
     let next = place.deeper().binding(twins.is_some());
@@ -201,7 +231,9 @@ fn kept(
     cursor: &Cursor,
     twins: Option<Operands<Pat>>,
     minus: &Option<Item>,
-) -> Option<Operands<Pat>> {
+) -> Option<Operands<Pat>>
+    ensures { (before after : Standing) → MayOperands twins before after → MayOperands result before after }
+{
     if may_negate(cursor, minus) {
         twins
     } else {
@@ -210,7 +242,9 @@ fn kept(
 }
 
 /// The sequence with its last operand.
-fn ended(alloc: Global, sequence: Sequence, last: Read) -> Result<Read, Stop> {
+fn ended(alloc: Global, sequence: Sequence, last: Read) -> Result<Read, Stop>
+    ensures { IfOk result (λ read. (before middle after : Standing) → WaitsOperand sequence before middle → ReadsOperand (colons_of sequence.place.annotations) last middle after → ReadsSequence sequence.place.annotations read before after) }
+{
     let Sequence {
         operands,
         twins,
@@ -242,8 +276,10 @@ fn sectioned(
     alloc: Global,
     sequence: Sequence,
     last: Read,
-    operator: Operator,
-) -> Result<Read, Stop> {
+    operator: Held<Operator>,
+) -> Result<Read, Stop>
+    ensures { IfOk result (λ read. (before middle behind after : Standing) → WaitsOperand sequence before middle → ReadsOperand (colons_of sequence.place.annotations) last middle behind → Spells IsOperator operator_items operator behind after → ReadsSequence sequence.place.annotations read before after) }
+{
     let Sequence {
         operands,
         minus,
@@ -270,7 +306,9 @@ fn annotated(
     notes: &mut Notes,
     place: Place,
     read: Read,
-) -> Result<Step, Stop> {
+) -> Result<Step, Stop>
+    ensures { IfOk result (λ step. (before : Standing) → ReadsSequence place.annotations read before cursor.old → Steps (Wanted.Sequence place.annotations) step before cursor.new) }
+{
     match place.annotations {
         Annotations::Allowed => with_type(alloc, cursor, notes, place.depth, read),
         Annotations::Barred => Ok(done_expression(read)),
@@ -285,7 +323,9 @@ fn with_type(
     notes: &mut Notes,
     depth: u32,
     read: Read,
-) -> Result<Step, Stop> {
+) -> Result<Step, Stop>
+    ensures { IfOk result (λ step. (before : Standing) → ReadsSequence Annotations.Allowed read before cursor.old → Steps (Wanted.Sequence Annotations.Allowed) step before cursor.new) }
+{
     if !goes_on(&read) || !is_next(cursor, Mark::DoubleColon) {
         return Ok(done_expression(read));
     }

@@ -1,7 +1,9 @@
 //! What stands in parentheses and square brackets, of which a part is read.
+ghost use Rattle.std.specs.Prelude.{◌<◌};
 
 use crate::twins::Twin;
 use hr_base::Item;
+use hr_parse_lexeme::Held;
 use hr_parse_pattern::{Part, Parts};
 use hr_tree::{Exp, Operator, Pat, Qualifier};
 
@@ -10,7 +12,7 @@ use hr_tree::{Exp, Operator, Pat, Qualifier};
 pub enum Bracket {
     Parenthesis(Parenthesis),
     /// A right section, behind its operator.
-    Section(Item, Operator),
+    Section(Item, Held<Operator>),
     /// A list, before its first part, and whether it may be one of patterns.
     Square(u32, Item, bool),
     Second(Second),
@@ -38,7 +40,7 @@ pub struct Second {
     pub depth: u32,
     pub left: Item,
     pub first: Part<Exp>,
-    pub twin: Option<Twin>,
+    pub twin: Option<Held<Twin>>,
     pub comma: Item,
 }
 

@@ -32,8 +32,8 @@ pub use steps::{
     wait,
 };
 pub use twins::{
-    Applied, Twin, applied_of, bound_twin, group_of, head_of, list_of, literal_twin, named_twin,
-    no_operands, no_parts, number_twin, one_more, one_operand_more, one_part_more, pattern_of,
-    refused, sequence_of, tuple_of,
+    Applied, Twin, applied_of, bound_twin, group_of, head_of, is_named, list_of, literal_twin,
+    named_twin, no_operands, no_parts, number_twin, one_more, one_operand_more, one_part_more,
+    pattern_of, refused, sequence_of, tuple_of,
 };
 pub use words::{accept_before_block, before_alternatives, before_block};

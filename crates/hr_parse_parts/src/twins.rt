@@ -1,8 +1,20 @@
 //! Patterns that have the lexemes of an expression. What may be an expression or a pattern, as a qualifier's
 //! beginning, is read once, and both are built, until a lexeme comes that only one of them can go on with.
+ghost use Rattle.std.specs.Prelude.{◌≡◌, ◌≤◌, ◌+◌, ℕ, Some, IfOk, IfSome};
+ghost use Rattle.std.specs.Option.{option_map};
+ghost use Rattle.hr_layout.specs.Standing.{Standing};
+ghost use Rattle.hr_tree.specs.Names.{constructor_items, operator_items, variable_items};
+ghost use Rattle.hr_base.specs.declared.lexeme.Class.{Class};
+ghost use Rattle.hr_grammar.specs.Words.{IsComma, IsLeftParen, IsLeftSquare, IsLiteral, IsMinus, IsOf, IsRightParen, IsRightSquare};
+ghost use Rattle.hr_grammar.specs.Spelled.{IsConstructor, IsConstructorOperator, IsVariable};
+ghost use Rattle.hr_grammar.specs.Nodes.{PatPlace};
+ghost use Rattle.hr_parse_lexeme.specs.Reads.{Accepts, Spells, Takes};
+ghost use Rattle.hr_parse_pattern.specs.Patterns.{ReadsPat};
+ghost use Rattle.hr_parse_parts.specs.Lists.{AsMany, MayApplied, MayOperands, MayParts};
+ghost use Rattle.hr_parse_parts.specs.Parts.{MayTwin, ReadsTwin};
 
 use hr_base::Item;
-use hr_parse_lexeme::{Stop, nest};
+use hr_parse_lexeme::{Held, Stop, nest};
 use hr_parse_pattern::{Many, Operands, Part, Parts, applied, group, infix, leaf, list, tuple};
 use hr_tree::{Constructor, Operator, Pat, Variable};
 use std::alloc::{AllocError, Global};
@@ -10,7 +22,7 @@ use std::alloc::{AllocError, Global};
 /// A pattern, or a constructor that arguments may follow.
 #[derive(Drop)]
 pub enum Twin {
-    Named(Constructor),
+    Named(Held<Constructor>),
     /// An integer, which a minus may stand before.
     Number(Item),
     Pattern(Part<Pat>),
@@ -19,15 +31,17 @@ pub enum Twin {
 /// A constructor and the patterns behind it.
 #[derive(Drop)]
 pub struct Applied {
-    pub constructor: Constructor,
+    pub constructor: Held<Constructor>,
     pub patterns: Many<Pat>,
 }
 
 /// The pattern, of which nothing more is read.
-pub fn pattern_of(alloc: Global, twin: Twin) -> Result<Part<Pat>, AllocError> {
-    match twin {
+pub fn pattern_of(alloc: Global, twin: Held<Twin>) -> Result<Part<Pat>, AllocError>
+    ensures { IfOk result (λ part. (place : PatPlace) (before after : Standing) → ReadsTwin place twin before after → ReadsPat place part before after) }
+{
+    match twin.take() {
         Twin::Named(named) => {
-            let part = leaf(alloc, Pat::Constructor(named))?;
+            let part = leaf(alloc, Pat::Constructor(named.take()))?;
             Ok(part)
         }
         Twin::Number(number) => {
@@ -42,13 +56,15 @@ pub fn pattern_of(alloc: Global, twin: Twin) -> Result<Part<Pat>, AllocError> {
 fn operand_of(
     alloc: Global,
     minus: Option<&Item>,
-    twin: Twin,
-) -> Result<Option<Part<Pat>>, AllocError> {
+    twin: Held<Twin>,
+) -> Result<Option<Part<Pat>>, AllocError>
+    ensures { IfOk result (λ found. IfSome found (λ part. (before middle after : Standing) → Accepts IsMinus (option_map (λ item. item.now) minus) before middle → ReadsTwin PatPlace.Operand twin middle after → ReadsPat PatPlace.Operand part before after)) }
+{
     let Some(minus) = minus else {
         let part = pattern_of(alloc, twin)?;
         return Ok(Some(part));
     };
-    match twin {
+    match twin.take() {
         Twin::Number(number) => {
             let minus = minus.clone()?;
             let part = leaf(alloc, Pat::Negative(minus, number))?;
@@ -58,14 +74,27 @@ fn operand_of(
     }
 }
 
-/// The application to patterns of what may be a constructor.
-pub fn head_of(alloc: Global, twin: Option<Twin>) -> Option<Applied> {
+/// Whether it is a constructor, which arguments may follow.
+pub fn is_named(twin: &Option<Held<Twin>>) -> bool {
     match twin {
-        Some(Twin::Named(constructor)) => Some(Applied {
-            constructor,
-            patterns: Many::new(alloc),
-        }),
-        _ => None,
+        None => false,
+        Some(twin) => matches!(twin.get(), Twin::Named(_)),
+    }
+}
+
+/// The application to patterns of what may be a constructor.
+pub fn head_of(alloc: Global, twin: Option<Held<Twin>>) -> Option<Applied>
+    ensures { (before after : Standing) → MayTwin PatPlace.Atomic twin before after → MayApplied result before after }
+{
+    match twin {
+        None => None,
+        Some(twin) => match twin.take() {
+            Twin::Named(constructor) => Some(Applied {
+                constructor,
+                patterns: Many::new(alloc),
+            }),
+            _ => None,
+        },
     }
 }
 
@@ -73,8 +102,10 @@ pub fn head_of(alloc: Global, twin: Option<Twin>) -> Option<Applied> {
 pub fn one_more(
     alloc: Global,
     applied: Option<Applied>,
-    twin: Option<Twin>,
-) -> Result<Option<Applied>, AllocError> {
+    twin: Option<Held<Twin>>,
+) -> Result<Option<Applied>, AllocError>
+    ensures { IfOk result (λ all. (before middle after : Standing) → MayApplied applied before middle → MayTwin PatPlace.Atomic twin middle after → MayApplied all before after) }
+{
     let Some(applied) = applied else {
         return Ok(None);
     };
@@ -93,7 +124,9 @@ pub fn one_more(
     }))
 }
 
-pub fn applied_of(alloc: Global, head: Option<Applied>) -> Result<Option<Twin>, Stop> {
+pub fn applied_of(alloc: Global, head: Option<Applied>) -> Result<Option<Held<Twin>>, Stop>
+    ensures { IfOk result (λ twin. (before after : Standing) → MayApplied head before after → MayTwin PatPlace.Operand twin before after) }
+{
     let Some(head) = head else {
         return Ok(None);
     };
@@ -102,12 +135,15 @@ pub fn applied_of(alloc: Global, head: Option<Applied>) -> Result<Option<Twin>, 
         patterns,
     } = head;
     nest(1, patterns.height)?;
-    let part = applied(alloc, constructor, patterns)?;
-    Ok(Some(Twin::Pattern(part)))
+    let part = applied(alloc, constructor.take(), patterns)?;
+    Ok(Some(Held::new(Twin::Pattern(part))))
 }
 
 /// No parts yet, where patterns may stand.
-pub fn no_parts(alloc: Global, may_bind: bool) -> Option<Parts<Pat>> {
+pub fn no_parts(alloc: Global, may_bind: bool) -> Option<Parts<Pat>>
+    ensures reads { (here : Standing) → MayParts result here here }
+    ensures many { AsMany result 0 }
+{
     if may_bind {
         Some(Parts::new(alloc))
     } else {
@@ -119,9 +155,12 @@ pub fn no_parts(alloc: Global, may_bind: bool) -> Option<Parts<Pat>> {
 pub fn one_part_more(
     alloc: Global,
     parts: Option<Parts<Pat>>,
-    twin: Option<Twin>,
+    twin: Option<Held<Twin>>,
     comma: &Item,
-) -> Result<Option<Parts<Pat>>, AllocError> {
+) -> Result<Option<Parts<Pat>>, AllocError>
+    ensures reads { IfOk result (λ all. (before middle behind after : Standing) → MayParts parts before middle → MayTwin PatPlace.Whole twin middle behind → Takes IsComma comma.now behind after → MayParts all before after) }
+    ensures many { IfOk result (λ all. (count : ℕ) → AsMany parts count → AsMany all (count + 1)) }
+{
     let Some(mut parts) = parts else {
         return Ok(None);
     };
@@ -137,9 +176,11 @@ pub fn one_part_more(
 pub fn group_of(
     alloc: Global,
     left: &Item,
-    twin: Option<Twin>,
+    twin: Option<Held<Twin>>,
     right: &Item,
-) -> Result<Option<Twin>, Stop> {
+) -> Result<Option<Held<Twin>>, Stop>
+    ensures { IfOk result (λ whole. (before inner outer after : Standing) → Takes IsLeftParen left.now before inner → MayTwin PatPlace.Whole twin inner outer → Takes IsRightParen right.now outer after → MayTwin PatPlace.Atomic whole before after) }
+{
     let Some(twin) = twin else {
         return Ok(None);
     };
@@ -148,7 +189,7 @@ pub fn group_of(
     let left = left.clone()?;
     let right = right.clone()?;
     let part = group(alloc, left, part, right)?;
-    Ok(Some(Twin::Pattern(part)))
+    Ok(Some(Held::new(Twin::Pattern(part))))
 }
 
 /// The tuple with its last part.
@@ -156,9 +197,11 @@ pub fn tuple_of(
     alloc: Global,
     left: &Item,
     parts: Option<Parts<Pat>>,
-    twin: Option<Twin>,
+    twin: Option<Held<Twin>>,
     right: &Item,
-) -> Result<Option<Twin>, Stop> {
+) -> Result<Option<Held<Twin>>, Stop>
+    ensures { IfOk result (λ whole. (count : ℕ) (before inner middle outer after : Standing) → AsMany parts count → 1 ≤ count → count ≤ 14 → Takes IsLeftParen left.now before inner → MayParts parts inner middle → MayTwin PatPlace.Whole twin middle outer → Takes IsRightParen right.now outer after → MayTwin PatPlace.Atomic whole before after) }
+{
     let Some(mut parts) = parts else {
         return Ok(None);
     };
@@ -171,7 +214,7 @@ pub fn tuple_of(
     let left = left.clone()?;
     let right = right.clone()?;
     let part = tuple(alloc, left, parts, right)?;
-    Ok(Some(Twin::Pattern(part)))
+    Ok(Some(Held::new(Twin::Pattern(part))))
 }
 
 /// The list with its last part.
@@ -179,9 +222,11 @@ pub fn list_of(
     alloc: Global,
     left: &Item,
     parts: Option<Parts<Pat>>,
-    twin: Option<Twin>,
+    twin: Option<Held<Twin>>,
     right: &Item,
-) -> Result<Option<Twin>, Stop> {
+) -> Result<Option<Held<Twin>>, Stop>
+    ensures { IfOk result (λ whole. (before inner middle outer after : Standing) → Takes IsLeftSquare left.now before inner → MayParts parts inner middle → MayTwin PatPlace.Whole twin middle outer → Takes IsRightSquare right.now outer after → MayTwin PatPlace.Atomic whole before after) }
+{
     let Some(mut parts) = parts else {
         return Ok(None);
     };
@@ -194,11 +239,13 @@ pub fn list_of(
     let left = left.clone()?;
     let right = right.clone()?;
     let part = list(alloc, left, parts, right)?;
-    Ok(Some(Twin::Pattern(part)))
+    Ok(Some(Held::new(Twin::Pattern(part))))
 }
 
 /// No operands yet, where patterns may stand.
-pub fn no_operands(alloc: Global, may_bind: bool) -> Option<Operands<Pat>> {
+pub fn no_operands(alloc: Global, may_bind: bool) -> Option<Operands<Pat>>
+    ensures { (here : Standing) → MayOperands result here here }
+{
     if may_bind {
         Some(Operands::new(alloc))
     } else {
@@ -211,9 +258,11 @@ pub fn one_operand_more(
     alloc: Global,
     operands: Option<Operands<Pat>>,
     minus: Option<&Item>,
-    twin: Option<Twin>,
+    twin: Option<Held<Twin>>,
     operator: &Operator,
-) -> Result<Option<Operands<Pat>>, AllocError> {
+) -> Result<Option<Operands<Pat>>, AllocError>
+    ensures { IfOk result (λ all. (before middle inner outer after : Standing) → MayOperands operands before middle → Accepts IsMinus (option_map (λ item. item.now) minus) middle inner → MayTwin PatPlace.Operand twin inner outer → Spells IsConstructorOperator operator_items operator.now outer after → MayOperands all before after) }
+{
     let Some(mut operands) = operands else {
         return Ok(None);
     };
@@ -233,8 +282,10 @@ pub fn sequence_of(
     alloc: Global,
     operands: Option<Operands<Pat>>,
     minus: Option<&Item>,
-    twin: Option<Twin>,
-) -> Result<Option<Twin>, Stop> {
+    twin: Option<Held<Twin>>,
+) -> Result<Option<Held<Twin>>, Stop>
+    ensures { IfOk result (λ whole. (before middle inner after : Standing) → MayOperands operands before middle → Accepts IsMinus (option_map (λ item. item.now) minus) middle inner → MayTwin PatPlace.Operand twin inner after → MayTwin PatPlace.Whole whole before after) }
+{
     let Some(operands) = operands else {
         return Ok(None);
     };
@@ -249,10 +300,12 @@ pub fn sequence_of(
     };
     nest(1, operands.height.max(last.height))?;
     let part = infix(alloc, operands, last)?;
-    Ok(Some(Twin::Pattern(part)))
+    Ok(Some(Held::new(Twin::Pattern(part))))
 }
 
-fn same_operator(operator: &Operator) -> Result<Operator, AllocError> {
+fn same_operator(operator: &Operator) -> Result<Operator, AllocError>
+    ensures { IfOk result (λ same. same ≡ operator.now) }
+{
     match operator {
         Operator::Symbol(symbol) => Ok(Operator::Symbol(symbol.clone()?)),
         Operator::Quoted(left, name, right) => Ok(Operator::Quoted(
@@ -264,25 +317,29 @@ fn same_operator(operator: &Operator) -> Result<Operator, AllocError> {
 }
 
 /// The same number in a pattern, where one may stand.
-pub fn number_twin(number: &Item, may_bind: bool) -> Result<Option<Twin>, AllocError> {
+pub fn number_twin(number: &Item, may_bind: bool) -> Result<Option<Held<Twin>>, AllocError>
+    ensures { IfOk result (λ twin. (before after : Standing) → Takes (IsOf Class.Integer) number.now before after → MayTwin PatPlace.Atomic twin before after) }
+{
     if !may_bind {
         return Ok(None);
     }
     let number = number.clone()?;
-    Ok(Some(Twin::Number(number)))
+    Ok(Some(Held::new(Twin::Number(number))))
 }
 
 pub fn literal_twin(
     alloc: Global,
     literal: &Item,
     may_bind: bool,
-) -> Result<Option<Twin>, AllocError> {
+) -> Result<Option<Held<Twin>>, AllocError>
+    ensures { IfOk result (λ twin. (before after : Standing) → Takes IsLiteral literal.now before after → MayTwin PatPlace.Atomic twin before after) }
+{
     if !may_bind {
         return Ok(None);
     }
     let literal = literal.clone()?;
     let part = leaf(alloc, Pat::Literal(literal))?;
-    Ok(Some(Twin::Pattern(part)))
+    Ok(Some(Held::new(Twin::Pattern(part))))
 }
 
 /// The same variable as a pattern, where one may stand.
@@ -290,16 +347,20 @@ pub fn bound_twin(
     alloc: Global,
     variable: &Variable,
     may_bind: bool,
-) -> Result<Option<Twin>, AllocError> {
+) -> Result<Option<Held<Twin>>, AllocError>
+    ensures { IfOk result (λ twin. (before after : Standing) → Spells IsVariable variable_items variable.now before after → MayTwin PatPlace.Atomic twin before after) }
+{
     if !may_bind {
         return Ok(None);
     }
     let bound = same_variable(variable)?;
     let part = leaf(alloc, Pat::Variable(bound))?;
-    Ok(Some(Twin::Pattern(part)))
+    Ok(Some(Held::new(Twin::Pattern(part))))
 }
 
-fn same_variable(variable: &Variable) -> Result<Variable, AllocError> {
+fn same_variable(variable: &Variable) -> Result<Variable, AllocError>
+    ensures { IfOk result (λ same. same ≡ variable.now) }
+{
     match variable {
         Variable::Name(name) => Ok(Variable::Name(name.clone()?)),
         Variable::Symbol(left, symbol, right) => Ok(Variable::Symbol(
@@ -311,15 +372,19 @@ fn same_variable(variable: &Variable) -> Result<Variable, AllocError> {
 }
 
 /// The same constructor in a pattern, where one may stand.
-pub fn named_twin(named: &Constructor, may_bind: bool) -> Result<Option<Twin>, AllocError> {
+pub fn named_twin(named: &Constructor, may_bind: bool) -> Result<Option<Held<Twin>>, AllocError>
+    ensures { IfOk result (λ twin. (before after : Standing) → Spells IsConstructor constructor_items named.now before after → MayTwin PatPlace.Atomic twin before after) }
+{
     if !may_bind {
         return Ok(None);
     }
     let named = same_constructor(named)?;
-    Ok(Some(Twin::Named(named)))
+    Ok(Some(Held::new(Twin::Named(Held::new(named)))))
 }
 
-fn same_constructor(named: &Constructor) -> Result<Constructor, AllocError> {
+fn same_constructor(named: &Constructor) -> Result<Constructor, AllocError>
+    ensures { IfOk result (λ same. same ≡ named.now) }
+{
     match named {
         Constructor::Name(name) => Ok(Constructor::Name(name.clone()?)),
         Constructor::Symbol(left, symbol, right) => Ok(Constructor::Symbol(
@@ -340,7 +405,9 @@ fn same_constructor(named: &Constructor) -> Result<Constructor, AllocError> {
 }
 
 /// Stops, where no pattern may stand.
-pub fn refused<T: Drop>(found: Option<T>) -> Result<T, Stop> {
+pub fn refused<T: Drop>(found: Option<T>) -> Result<T, Stop>
+    ensures { IfOk result (λ value. found ≡ Some value) }
+{
     match found {
         None => Err(Stop::Syntax),
         Some(found) => Ok(found),

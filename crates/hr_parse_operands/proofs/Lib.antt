@@ -1,0 +1,3 @@
+pub mod Sequences
+pub mod Applications
+pub mod Forms

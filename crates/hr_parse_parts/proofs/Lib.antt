@@ -1,0 +1,7 @@
+pub mod Places
+pub mod Parts
+pub mod Listing
+pub mod Twins
+pub mod Pieces
+pub mod Words
+pub mod Steps
