@@ -1,2 +1,2 @@
-pub mod Blocks
-pub mod Sides
+pub mod Layouts
+pub mod Bodies

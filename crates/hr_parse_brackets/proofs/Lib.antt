@@ -1,2 +1,2 @@
 pub mod Atoms
-pub mod Brackets
+pub mod Enclosed

@@ -1,3 +1,3 @@
-pub mod Sequences
-pub mod Applications
-pub mod Forms
+pub mod Infixes
+pub mod Applied
+pub mod Formed

@@ -197,7 +197,7 @@ fn more_twins(
     twin: Option<Held<Twin>>,
     operator: &Operator,
 ) -> Result<Option<Operands<Pat>>, AllocError>
-    ensures { IfOk result (λ all. (before middle inner outer after : Standing) → MayOperands twins before middle → Accepts IsMinus (option_map (λ item. item.now) minus) middle inner → MayTwin PatPlace.Operand twin inner outer → Spells IsOperator operator_items operator.now outer after → MayOperands all before after) }
+    ensures { IfOk result (λ all. (before middle inner outer after : Standing) → MayOperands twins before middle → Accepts IsMinus (option_map (λ item. item.now) minus.entry) middle inner → MayTwin PatPlace.Operand twin inner outer → Spells IsOperator operator_items operator.now outer after → MayOperands all before after) }
 {
     if is_constructor_operator(operator) {
         one_operand_more(alloc, twins, minus, twin, operator)

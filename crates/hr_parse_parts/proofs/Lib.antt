@@ -1,7 +1,7 @@
 pub mod Places
 pub mod Parts
 pub mod Listing
-pub mod Twins
-pub mod Pieces
-pub mod Words
-pub mod Steps
+pub mod Patterns
+pub mod Margins
+pub mod Openings
+pub mod Stepping

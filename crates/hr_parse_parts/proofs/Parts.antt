@@ -47,12 +47,12 @@ inner_part {read} {a = a} {b} e none p =
     subst (λ t. ReadsExp Colons.Allowed ExpPlace.Sequence t a b) (sym e) (any_ending (inner_sequence read.next p.is (alone none p.read)))
 
 -- what was taken apart
-pub inside_part : {read : Read} {found : Inside} → found ≡ record { part = record { tree = read.tree; height = read.height }; twin = read.twin } → found.part ≡ record { tree = read.tree; height = read.height }
-inside_part e = ap (λ f. f.part) e
+pub inside_part : (read : Read) {found : Inside} → found ≡ record { part = record { tree = read.tree; height = read.height }; twin = read.twin } → found.part ≡ record { tree = read.tree; height = read.height }
+inside_part read e = ap (λ f. f.part) e
 
-pub inside_twin : {read : Read} {found : Inside} (place : PatPlace) {a b : Standing} → found ≡ record { part = record { tree = read.tree; height = read.height }; twin = read.twin } → MayTwin place read.twin a b
+pub inside_twin : (read : Read) (place : PatPlace) (a b : Standing) {found : Inside} → found ≡ record { part = record { tree = read.tree; height = read.height }; twin = read.twin } → MayTwin place read.twin a b
     → MayTwin place found.twin a b
-inside_twin place {a} {b} e p = subst (λ t. MayTwin place t a b) (sym (ap (λ f. f.twin) e)) p
+inside_twin read place a b e p = subst (λ t. MayTwin place t a b) (sym (ap (λ f. f.twin) e)) p
 
 -- a part that equals one that is read
 pub made_exp : {free : Colons} {place : ExpPlace} {ending : Ending} {found made : Part Exp} {a b : Standing} → found ≡ made → EndsExp free place made.height made.tree ending a b

@@ -43,11 +43,11 @@ pub record OpensMargin (kind : BlockKind) (col : ℕ) (before after : Standing) 
   pub blocks : after.blocks ≡ OpenBlock.Implicit col kind ∷ before.blocks
 
 -- a brace opens a block
-pub record OpensBraces (left : Item) (before after : Standing) : Type 0 where
+pub record OpensBraces (opener : Item) (before after : Standing) : Type 0 where
   pub middle : Standing
   pub rest : middle.rest ≡ before.rest
   pub blocks : middle.blocks ≡ OpenBlock.Explicit ∷ before.blocks
-  pub left : Takes IsLeftBrace left middle after
+  pub left : Takes IsLeftBrace opener middle after
 
 -- a block is left empty
 pub record IsEmpty (col : ℕ) (before after : Standing) : Type 0 where
@@ -62,16 +62,16 @@ Begins kind (Start.Open (Bounds.Margin col ending)) before after = (ending ≡ E
 Begins kind (Start.Open (Bounds.Braces left begins)) before after = (begins ≡ true) × OpensBraces left before after
 
 -- pieces of a block without braces, the last of which has the place and the ending
-pub record InMargin {T : Type 0} (of : PartsOf T) (kind : BlockKind) (first place : DeclPlace) (col : ℕ) (ending : Ending) (pieces : Pieces T) (before after : Standing) : Type 0 where
+pub record InMargin {T : Type 0} (of : PartsOf T) (kind : BlockKind) (first place : DeclPlace) (col : ℕ) (ending : Ending) (all : Pieces T) (before after : Standing) : Type 0 where
   pub middle : Standing
   pub opens : OpensMargin kind col before middle
-  pub pieces : ReadsPieces pieces.height of kind col first pieces.list place ending middle after
+  pub pieces : ReadsPieces all.height of kind col first all.list place ending middle after
 
 -- pieces of a block in braces, behind which a part may begin or not
-pub record InBraces {T : Type 0} (of : PartsOf T) (first place : DeclPlace) (left : Item) (begins : Bool) (pieces : Pieces T) (before after : Standing) : Type 0 where
+pub record InBraces {T : Type 0} (of : PartsOf T) (first place : DeclPlace) (left : Item) (begins : Bool) (all : Pieces T) (before after : Standing) : Type 0 where
   pub middle : Standing
   pub opens : OpensBraces left before middle
-  pub pieces : ReadsBraced pieces.height of first pieces.list place begins middle after
+  pub pieces : ReadsBraced all.height of first all.list place begins middle after
 
 abbrev pub InBlock : {T : Type 0} → PartsOf T → BlockKind → DeclPlace → DeclPlace → Bounds → Pieces T → Standing → Standing → Type 0
 InBlock of kind first place (Bounds.Margin col ending) pieces before after = InMargin of kind first place col ending pieces before after
@@ -92,9 +92,9 @@ abbrev pub Starts : Bounds → Standing → Standing → Type 0
 Starts (Bounds.Margin col ending) before after = StartsPart col ending before after
 Starts (Bounds.Braces left begins) before after = (begins ≡ true) × (after ≡ before)
 
-pub record BeginsPart {T : Type 0} (of : PartsOf T) (kind : BlockKind) (first place : DeclPlace) (bounds : Bounds) (pieces : Pieces T) (before after : Standing) : Type 0 where
+pub record BeginsPart {T : Type 0} (of : PartsOf T) (kind : BlockKind) (first place : DeclPlace) (bounds : Bounds) (all : Pieces T) (before after : Standing) : Type 0 where
   pub middle : Standing
-  pub pieces : InBlock of kind first place bounds pieces before middle
+  pub pieces : InBlock of kind first place bounds all before middle
   pub starts : Starts bounds middle after
 
 -- a block of declarations, by the position of its last part
@@ -140,11 +140,11 @@ abbrev pub ReadsLeft : Left → Standing → Standing → Type 0
 ReadsLeft (Left.Pattern part) before after = ReadsPat PatPlace.Whole part before after
 ReadsLeft (Left.Side side height) before after = Consumes height (λ below n. left_side_reading below n side) before after
 
-pub record WaitsDecl (block : Decls) (left : Left) (before after : Standing) : Type 0 where
+pub record WaitsDecl (block : Decls) (opener : Left) (before after : Standing) : Type 0 where
   pub middle : Standing
   pub begins : BeginsDecl block before middle
   pub takes : takes_local (decl_place block.position) ≡ true
-  pub left : ReadsLeft left middle after
+  pub left : ReadsLeft opener middle after
 
 pub record WaitsAlt (block : Alts) (part : Part Pat) (before after : Standing) : Type 0 where
   pub middle : Standing

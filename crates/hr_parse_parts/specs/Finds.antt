@@ -16,8 +16,8 @@ use Rattle.hr_parse_parts.specs.declared.pieces.Ahead.{Ahead}
 use Rattle.hr_parse_parts.specs.declared.pieces.Bounds.{Bounds}
 use Rattle.hr_parse_parts.specs.Blocks.{StartsPart}
 
-pub record EndsMargin (kind : BlockKind) (col : ℕ) (ending : Ending) (outer : List OpenBlock) (layout : Layout) (before after : Standing) : Type 0 where
-  pub layout : layout ≡ Layout.Implicit col
+pub record EndsMargin (kind : BlockKind) (col : ℕ) (ending : Ending) (outer : List OpenBlock) (laid : Layout) (before after : Standing) : Type 0 where
+  pub layout : laid ≡ Layout.Implicit col
   pub ends : ends_block col kind ending before.rest ≡ true
   pub rest : after.rest ≡ before.rest
   pub blocks : after.blocks ≡ outer
@@ -42,9 +42,9 @@ FindsMargin kind col ending outer (Ahead.End layout) before after = EndsMargin k
 FindsMargin kind col ending outer (Ahead.Semicolon item bounds) before after = (bounds ≡ Bounds.Margin col Ending.Nothing) × TakesSemicolon col item before after
 FindsMargin kind col ending outer (Ahead.Part bounds) before after = (bounds ≡ Bounds.Margin col ending) × StartsPart col ending before after
 
-pub record EndsBraces (left : Item) (outer : List OpenBlock) (layout : Layout) (before after : Standing) : Type 0 where
+pub record EndsBraces (left : Item) (outer : List OpenBlock) (laid : Layout) (before after : Standing) : Type 0 where
   pub right : Item
-  pub layout : layout ≡ Layout.Explicit left right
+  pub layout : laid ≡ Layout.Explicit left right
   pub brace : one 0 IsRightBrace right before.rest after.rest
   pub blocks : after.blocks ≡ outer
 

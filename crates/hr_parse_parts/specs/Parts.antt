@@ -65,13 +65,13 @@ pub record ReadsAtom (read : Read) (before after : Standing) : Type 0 where
   pub exp : (free : Colons) → EndsExp free ExpPlace.Atom read.height read.tree read.ending before after
   pub twin : MayTwin PatPlace.Atomic read.twin before after
 
-pub record ReadsOperand (free : Colons) (read : Read) (before after : Standing) : Type 0 where
-  pub is : IsOperand read.next
-  pub read : ReadsRead free (operand_place read.next) PatPlace.Operand read before after
+pub record ReadsOperand (free : Colons) (found : Read) (before after : Standing) : Type 0 where
+  pub is : IsOperand found.next
+  pub read : ReadsRead free (operand_place found.next) PatPlace.Operand found before after
 
-pub record ReadsSequence (annotations : Annotations) (read : Read) (before after : Standing) : Type 0 where
-  pub is : IsSequence annotations read.next
-  pub read : ReadsRead (colons_of annotations) (sequence_place read.next) PatPlace.Whole read before after
+pub record ReadsSequence (annotations : Annotations) (found : Read) (before after : Standing) : Type 0 where
+  pub is : IsSequence annotations found.next
+  pub read : ReadsRead (colons_of annotations) (sequence_place found.next) PatPlace.Whole found before after
 
 -- a right side behind its left one
 abbrev pub ReadsSide : Mark → Side → Standing → Standing → Type 0

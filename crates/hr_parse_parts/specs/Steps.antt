@@ -125,9 +125,9 @@ Waits (Frame.Declaration block left) makes needs before after = (makes ≡ Wante
 Waits (Frame.Alternative block part) makes needs before after = (makes ≡ Wanted.Alternatives) × (needs ≡ Wanted.Side Mark.Arrow) × WaitsAlt block part before after
 
 -- the frame waits for the goal
-pub record WaitsFor (frame : Frame) (goal : Goal) (makes : Wanted) (before after : Standing) : Type 0 where
+pub record WaitsFor (waiting : Frame) (goal : Goal) (makes : Wanted) (before after : Standing) : Type 0 where
   pub middle : Standing
-  pub frame : Waits frame makes (wanted goal) before middle
+  pub frame : Waits waiting makes (wanted goal) before middle
   pub begun : Begun goal middle after
 
 -- what follows from what was taken

@@ -66,19 +66,19 @@ pub record WaitsPart (begun : Parenthesis) (before after : Standing) : Type 0 wh
   pub many : AsMany begun.twins (length begun.parts.list)
 
 -- a parenthesis and an operator
-pub record WaitsSection (left : Item) (operator : Operator) (before after : Standing) : Type 0 where
+pub record WaitsSection (opener : Item) (infix : Operator) (before after : Standing) : Type 0 where
   pub middle : Standing
-  pub left : Takes IsLeftParen left before middle
-  pub operator : Spells IsOperator operator_items operator middle after
-  pub no_minus : IsNoMinus operator
+  pub left : Takes IsLeftParen opener before middle
+  pub operator : Spells IsOperator operator_items infix middle after
+  pub no_minus : IsNoMinus infix
 
 -- a square bracket and a first part
-pub record WaitsSecond (left : Item) (first : Part Exp) (comma : Item) (before after : Standing) : Type 0 where
+pub record WaitsSecond (opener : Item) (begins : Part Exp) (separator : Item) (before after : Standing) : Type 0 where
   pub inner : Standing
   pub outer : Standing
-  pub left : Takes IsLeftSquare left before inner
-  pub first : ReadsExp Colons.Allowed ExpPlace.Whole first inner outer
-  pub comma : Takes IsComma comma outer after
+  pub left : Takes IsLeftSquare opener before inner
+  pub first : ReadsExp Colons.Allowed ExpPlace.Whole begins inner outer
+  pub comma : Takes IsComma separator outer after
 
 -- the same part as a pattern
 pub record WaitsTwin (second : Second) (before after : Standing) : Type 0 where
@@ -89,31 +89,31 @@ pub record WaitsTwin (second : Second) (before after : Standing) : Type 0 where
   pub twin : MayTwin PatPlace.Whole second.twin inner outer
   pub comma : Takes IsComma second.comma outer after
 
-pub record WaitsParts (parts : ListParts) (before after : Standing) : Type 0 where
+pub record WaitsParts (several : ListParts) (before after : Standing) : Type 0 where
   pub middle : Standing
-  pub left : Takes IsLeftSquare parts.left before middle
-  pub parts : ReadsExps parts.parts middle after
-  pub twins : MayParts parts.twins middle after
+  pub left : Takes IsLeftSquare several.left before middle
+  pub parts : ReadsExps several.parts middle after
+  pub twins : MayParts several.twins middle after
 
 -- what stands before `..`
-pub record WaitsOne (left : Item) (first : Part Exp) (before after : Standing) : Type 0 where
+pub record WaitsOne (opener : Item) (begins : Part Exp) (before after : Standing) : Type 0 where
   pub middle : Standing
-  pub left : Takes IsLeftSquare left before middle
-  pub first : ReadsExp Colons.Allowed ExpPlace.Whole first middle after
+  pub left : Takes IsLeftSquare opener before middle
+  pub first : ReadsExp Colons.Allowed ExpPlace.Whole begins middle after
 
-pub record WaitsTwo (left : Item) (first : Part Exp) (comma : Item) (second : Part Exp) (before after : Standing) : Type 0 where
+pub record WaitsTwo (left : Item) (begins : Part Exp) (comma : Item) (later : Part Exp) (before after : Standing) : Type 0 where
   pub middle : Standing
-  pub first : WaitsSecond left first comma before middle
-  pub second : ReadsExp Colons.Allowed ExpPlace.Whole second middle after
+  pub first : WaitsSecond left begins comma before middle
+  pub second : ReadsExp Colons.Allowed ExpPlace.Whole later middle after
 
 abbrev pub BeforeDots : Dots → Standing → Standing → Type 0
 BeforeDots (Dots.One left first) before after = WaitsOne left first before after
 BeforeDots (Dots.Two left first comma second) before after = WaitsTwo left first comma second before after
 
-pub record WaitsLast (dots : Dots) (mark : Item) (before after : Standing) : Type 0 where
+pub record WaitsLast (sequence : Dots) (opener : Item) (before after : Standing) : Type 0 where
   pub middle : Standing
-  pub dots : BeforeDots dots before middle
-  pub mark : Takes IsDots mark middle after
+  pub dots : BeforeDots sequence before middle
+  pub mark : Takes IsDots opener middle after
 
 -- a comprehension before a qualifier
 pub record WaitsQualifier (begun : Comprehension) (before after : Standing) : Type 0 where
@@ -125,26 +125,26 @@ pub record WaitsQualifier (begun : Comprehension) (before after : Standing) : Ty
   pub bar : Takes IsBar begun.bar outer middle
   pub qualifiers : ReadsQualifiers begun.qualifiers middle after
 
-pub record WaitsGenerator (begun : Comprehension) (pattern : Part Pat) (arrow : Item) (before after : Standing) : Type 0 where
+pub record WaitsGenerator (comprehension : Comprehension) (bound : Part Pat) (pointer : Item) (before after : Standing) : Type 0 where
   pub begin : Standing
   pub behind : Standing
-  pub begun : WaitsQualifier begun before begin
-  pub pattern : ReadsPat PatPlace.Whole pattern begin behind
-  pub arrow : Takes IsBackArrow arrow behind after
+  pub begun : WaitsQualifier comprehension before begin
+  pub pattern : ReadsPat PatPlace.Whole bound begin behind
+  pub arrow : Takes IsBackArrow pointer behind after
 
-pub record WaitsLocals (begun : Comprehension) (word : Item) (before after : Standing) : Type 0 where
+pub record WaitsLocals (comprehension : Comprehension) (opener : Item) (before after : Standing) : Type 0 where
   pub middle : Standing
-  pub begun : WaitsQualifier begun before middle
-  pub word : Takes (IsWord (codes "let")) word middle after
+  pub begun : WaitsQualifier comprehension before middle
+  pub word : Takes (IsWord (codes "let")) opener middle after
 
 -- of a lambda
-pub record WaitsBody (mark : Item) (patterns : Many Pat) (arrow : Item) (before after : Standing) : Type 0 where
+pub record WaitsBody (opener : Item) (several : Many Pat) (pointer : Item) (before after : Standing) : Type 0 where
   pub inner : Standing
   pub outer : Standing
-  pub mark : Takes (IsReserved (codes "\\")) mark before inner
-  pub patterns : ReadsArguments patterns inner outer
-  pub some : patterns.list ≢ []
-  pub arrow : Takes IsArrow arrow outer after
+  pub mark : Takes (IsReserved (codes "\\")) opener before inner
+  pub patterns : ReadsArguments several inner outer
+  pub some : several.list ≢ []
+  pub arrow : Takes IsArrow pointer outer after
 
 -- `let`, a block and `in`
 pub record WaitsIn (local : LetBody) (before after : Standing) : Type 0 where
@@ -162,41 +162,41 @@ pub record WaitsThen (free : Colons) (condition : Condition) (before after : Sta
   pub test : ReadsExp free ExpPlace.Whole condition.test inner outer
   pub then_word : Takes (IsWord (codes "then")) condition.then_word outer after
 
-pub record WaitsElse (free : Colons) (condition : Condition) (first : Part Exp) (else_word : Item) (before after : Standing) : Type 0 where
+pub record WaitsElse (free : Colons) (before_then : Condition) (begins : Part Exp) (before_else : Item) (before after : Standing) : Type 0 where
   pub inner : Standing
   pub outer : Standing
-  pub condition : WaitsThen free condition before inner
-  pub first : ReadsExp free ExpPlace.Whole first inner outer
-  pub else_word : Takes (IsWord (codes "else")) else_word outer after
+  pub condition : WaitsThen free before_then before inner
+  pub first : ReadsExp free ExpPlace.Whole begins inner outer
+  pub else_word : Takes (IsWord (codes "else")) before_else outer after
 
 -- `case`, the expression and `of`
-pub record WaitsOf (free : Colons) (word : Item) (part : Part Exp) (of_word : Item) (before after : Standing) : Type 0 where
+pub record WaitsOf (free : Colons) (opener : Item) (examined : Part Exp) (before_of : Item) (before after : Standing) : Type 0 where
   pub inner : Standing
   pub outer : Standing
-  pub word : Takes (IsWord (codes "case")) word before inner
-  pub part : ReadsExp free ExpPlace.Whole part inner outer
-  pub of_word : Takes (IsWord (codes "of")) of_word outer after
+  pub word : Takes (IsWord (codes "case")) opener before inner
+  pub part : ReadsExp free ExpPlace.Whole examined inner outer
+  pub of_word : Takes (IsWord (codes "of")) before_of outer after
 
 -- guards, and a bar
-pub record WaitsGuard (guards : Guards) (bar : Item) (before after : Standing) : Type 0 where
+pub record WaitsGuard (others : Guards) (opener : Item) (before after : Standing) : Type 0 where
   pub middle : Standing
-  pub guards : ReadsEach guards.height (a_guard guards.mark) guards.list before middle
-  pub bar : Takes IsBar bar middle after
+  pub guards : ReadsEach others.height (a_guard others.mark) others.list before middle
+  pub bar : Takes IsBar opener middle after
 
 -- and a guard with its mark
-pub record WaitsGuarded (guards : Guards) (guarded : GuardedBy) (before after : Standing) : Type 0 where
+pub record WaitsGuarded (others : Guards) (guarded : GuardedBy) (before after : Standing) : Type 0 where
   pub inner : Standing
   pub outer : Standing
-  pub guards : WaitsGuard guards guarded.bar before inner
+  pub guards : WaitsGuard others guarded.bar before inner
   pub guard : ReadsExp Colons.Barred ExpPlace.Sequence guarded.guard inner outer
-  pub mark : Takes (IsMark guards.mark) guarded.mark outer after
+  pub mark : Takes (IsMark others.mark) guarded.mark outer after
 
 -- a body that ends so
 abbrev pub ReadsBody : Mark → Whole → Ending → Standing → Standing → Type 0
 ReadsBody mark body ending = Consumes body.height (λ below n. body_reading below n (IsMark mark) body.body ending)
 
-pub record WaitsWhere (mark : Mark) (body : Whole) (word : Item) (before after : Standing) : Type 0 where
+pub record WaitsWhere (mark : Mark) (whole : Whole) (opener : Item) (before after : Standing) : Type 0 where
   pub inner : Ending
   pub middle : Standing
-  pub body : ReadsBody mark body inner before middle
-  pub word : Takes (IsWord (codes "where")) word middle after
+  pub body : ReadsBody mark whole inner before middle
+  pub word : Takes (IsWord (codes "where")) opener middle after

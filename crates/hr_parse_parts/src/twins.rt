@@ -58,7 +58,7 @@ fn operand_of(
     minus: Option<&Item>,
     twin: Held<Twin>,
 ) -> Result<Option<Part<Pat>>, AllocError>
-    ensures { IfOk result (λ found. IfSome found (λ part. (before middle after : Standing) → Accepts IsMinus (option_map (λ item. item.now) minus) before middle → ReadsTwin PatPlace.Operand twin middle after → ReadsPat PatPlace.Operand part before after)) }
+    ensures { IfOk result (λ found. IfSome found (λ part. (before middle after : Standing) → Accepts IsMinus (option_map (λ item. item.now) minus.entry) before middle → ReadsTwin PatPlace.Operand twin middle after → ReadsPat PatPlace.Operand part before after)) }
 {
     let Some(minus) = minus else {
         let part = pattern_of(alloc, twin)?;
@@ -261,7 +261,7 @@ pub fn one_operand_more(
     twin: Option<Held<Twin>>,
     operator: &Operator,
 ) -> Result<Option<Operands<Pat>>, AllocError>
-    ensures { IfOk result (λ all. (before middle inner outer after : Standing) → MayOperands operands before middle → Accepts IsMinus (option_map (λ item. item.now) minus) middle inner → MayTwin PatPlace.Operand twin inner outer → Spells IsConstructorOperator operator_items operator.now outer after → MayOperands all before after) }
+    ensures { IfOk result (λ all. (before middle inner outer after : Standing) → MayOperands operands before middle → Accepts IsMinus (option_map (λ item. item.now) minus.entry) middle inner → MayTwin PatPlace.Operand twin inner outer → Spells IsConstructorOperator operator_items operator.now outer after → MayOperands all before after) }
 {
     let Some(mut operands) = operands else {
         return Ok(None);
@@ -284,7 +284,7 @@ pub fn sequence_of(
     minus: Option<&Item>,
     twin: Option<Held<Twin>>,
 ) -> Result<Option<Held<Twin>>, Stop>
-    ensures { IfOk result (λ whole. (before middle inner after : Standing) → MayOperands operands before middle → Accepts IsMinus (option_map (λ item. item.now) minus) middle inner → MayTwin PatPlace.Operand twin inner after → MayTwin PatPlace.Whole whole before after) }
+    ensures { IfOk result (λ whole. (before middle inner after : Standing) → MayOperands operands before middle → Accepts IsMinus (option_map (λ item. item.now) minus.entry) middle inner → MayTwin PatPlace.Operand twin inner after → MayTwin PatPlace.Whole whole before after) }
 {
     let Some(operands) = operands else {
         return Ok(None);

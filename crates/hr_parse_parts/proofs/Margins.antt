@@ -1,5 +1,5 @@
 -- How a block opens, what is found next in it, and how it ends, by what a cursor answers.
-use Rattle.std.proofs.Common.{◌≡◌, ℕ, Bool, true, false, List, [], ◌∷◌, drop, Option, Some, None, if◌then◌else◌, refl, sym, ap, ap₂, ◌∙◌, subst}
+use Rattle.std.proofs.Common.{◌≡◌, ℕ, Bool, true, false, List, [], ◌∷◌, drop, Option, Some, None, if◌then◌else◌, refl, sym, ap, ap₂, ◌∙◌, ◌||◌, subst}
 use lib.Chars.{codes}
 use Rattle.hr_base.specs.declared.place.Pos.{Pos}
 use Rattle.hr_base.specs.declared.lexeme.Class.{Class}
@@ -23,11 +23,11 @@ use Rattle.hr_parse_parts.specs.Blocks.{Begins, IsEmpty, OpensBraces, OpensMargi
 use Rattle.hr_parse_parts.specs.Finds.{EndsBraces, EndsMargin, IsNext, MayTakeSemicolon, TakesSemicolon}
 
 -- how a block opens
-opened_rest : {kind : BlockKind} {how : Opened} {before cursor : Standing} → how ≡ opening before → cursor ≡ opened_as kind before → cursor.rest ≡ opened_before how before.rest
-opened_rest {before = before} e f = ap (λ c. c.rest) f ∙ ap (λ o. opened_before o before.rest) (sym e)
+opened_rest : (kind : BlockKind) (before : Standing) {how : Opened} {cursor : Standing} → how ≡ opening before → cursor ≡ opened_as kind before → cursor.rest ≡ opened_before how before.rest
+opened_rest kind before e f = ap (λ c. c.rest) f ∙ ap (λ o. opened_before o before.rest) (sym e)
 
-opened_blocks : {kind : BlockKind} {how : Opened} {before cursor : Standing} → how ≡ opening before → cursor ≡ opened_as kind before → cursor.blocks ≡ opened_in how kind before.blocks
-opened_blocks {kind} {before = before} e f = ap (λ c. c.blocks) f ∙ ap (λ o. opened_in o kind before.blocks) (sym e)
+opened_blocks : (kind : BlockKind) (before : Standing) {how : Opened} {cursor : Standing} → how ≡ opening before → cursor ≡ opened_as kind before → cursor.blocks ≡ opened_in how kind before.blocks
+opened_blocks kind before e f = ap (λ c. c.blocks) f ∙ ap (λ o. opened_in o kind before.blocks) (sym e)
 
 column_marked : (is_first : Bool) (rest : List Placed) → column_of (mark is_first rest) ≡ column_of rest
 column_marked is_first [] = refl
@@ -36,18 +36,18 @@ column_marked is_first (next ∷ rest) = refl
 pub empty_begins : {col : ℕ} (kind : BlockKind) (before : Standing) {cursor : Standing} → col ≡ column_of cursor.rest → Opened.Empty ≡ opening before → cursor ≡ opened_as kind before → Begins kind (Start.Empty col) before cursor
 empty_begins kind before g e f = record {
   opens = sym e;
-  column = g ∙ ap column_of (opened_rest e f) ∙ column_marked true before.rest;
-  rest = opened_rest e f;
-  blocks = opened_blocks e f;
+  column = g ∙ ap column_of (opened_rest kind before e f) ∙ column_marked true before.rest;
+  rest = opened_rest kind before e f;
+  blocks = opened_blocks kind before e f;
 }
 
 pub margin_begins : {col : ℕ} (kind : BlockKind) (before : Standing) {cursor : Standing} → Opened.Implicit col ≡ opening before → cursor ≡ opened_as kind before
     → Begins kind (Start.Open (Bounds.Margin col Ending.Nothing)) before cursor
-margin_begins kind before e f = (refl, record { opens = sym e; rest = opened_rest e f; blocks = opened_blocks e f })
+margin_begins kind before e f = (refl, record { opens = sym e; rest = opened_rest kind before e f; blocks = opened_blocks kind before e f })
 
 pub braces_begin : {brace : Item} (kind : BlockKind) (before : Standing) {cursor after : Standing} → Takes IsLeftBrace brace cursor after → Opened.Explicit ≡ opening before → cursor ≡ opened_as kind before
     → Begins kind (Start.Open (Bounds.Braces brace true)) before after
-braces_begin kind before {cursor} p e f = (refl, record { middle = cursor; rest = opened_rest e f; blocks = opened_blocks e f; left = p })
+braces_begin kind before {cursor} p e f = (refl, record { middle = cursor; rest = opened_rest kind before e f; blocks = opened_blocks kind before e f; left = p })
 
 -- a block without braces ends
 pub ends_margin : {kind : BlockKind} {col : ℕ} {ending : Ending} {outer : List OpenBlock} {ended : Bool} {before after : Standing} → ended ≡ true → ended ≡ ends_innermost before.blocks ending before.rest
@@ -60,7 +60,7 @@ ends_margin {ending = ending} {before = before} e is goes blocks =
       blocks = ap (λ c. c.blocks) there ∙ ap (drop 1) blocks;
     }
 
-pub not_ended : {ending : Ending} {ended : Bool} {before after : Standing} → ended ≡ false → after ≡ (if ended then left before else before) → after ≡ before
+pub not_ended : {ended : Bool} {before after : Standing} → ended ≡ false → after ≡ (if ended then left before else before) → after ≡ before
 not_ended {before = before} e goes = goes ∙ ap (λ b. if b then left before else before) e
 
 -- or a `;` stands in it, wherever it stands
@@ -74,14 +74,14 @@ semicolon_in : (rest : List Placed) (end : Pos) (outer : List OpenBlock) (behind
 semicolon_in [] end outer behind_of kind col ending item e is there goes = absurd (cc there)
 semicolon_in (next ∷ rest) end outer behind_of kind col ending item e is there goes = record {
   is = is;
-  taken = (neither (left_of col next) _ e, (cc there, ap (λ c. c.rest) goes));
+  taken = (neither (left_of col next) _ e, cc there, ap (λ c. c.rest) goes);
   blocks = ap (λ c. c.blocks) goes;
 }
 
-pub takes_semicolon : {kind : BlockKind} {col : ℕ} {ending : Ending} {outer : List OpenBlock} {ended : Bool} {item : Item} {before middle after : Standing} → ended ≡ false → ended ≡ ends_innermost before.blocks ending before.rest
+pub takes_semicolon : (ending : Ending) {kind : BlockKind} {col : ℕ} {outer : List OpenBlock} {ended : Bool} {item : Item} {before middle after : Standing} → ended ≡ false → ended ≡ ends_innermost before.blocks ending before.rest
     → middle ≡ (if ended then left before else before) → MayTakeSemicolon (Some item) middle after → before.blocks ≡ OpenBlock.Implicit col kind ∷ outer → TakesSemicolon col item before after
-takes_semicolon {kind} {col} {ending} {outer} {item = item} {before} {middle} {after} e is goes (semicolon, there, took) blocks =
-    let same : middle ≡ before = not_ended {ending = ending} e goes in
+takes_semicolon ending {kind} {col} {outer} {item = item} {before} {middle} {after} e is goes (semicolon, there, took) blocks =
+    let same : middle ≡ before = not_ended e goes in
     let ends : ends_block col kind ending before.rest ≡ false = sym (ap (λ bs. ends_innermost bs ending before.rest) blocks) ∙ sym is ∙ e in
     subst (λ b. TakesSemicolon col item b after) (sym (ap (λ bs. record { rest = before.rest; end = before.end; blocks = bs; behind_of = before.behind_of }) blocks))
     (semicolon_in before.rest before.end outer before.behind_of kind col ending item ends semicolon (ap (λ c. next_of c.rest) (sym same) ∙ there)
@@ -91,16 +91,16 @@ takes_semicolon {kind} {col} {ending} {outer} {item = item} {before} {middle} {a
 pub starts_margin : {kind : BlockKind} {col : ℕ} {ending : Ending} {outer : List OpenBlock} {ended starts : Bool} {before middle after : Standing} → ended ≡ false → middle ≡ (if ended then left before else before) → starts ≡ true
     → starts ≡ starts_innermost middle.blocks ending middle.rest → after ≡ begun middle → before.blocks ≡ OpenBlock.Implicit col kind ∷ outer → StartsPart col ending before after
 starts_margin {ending = ending} {before = before} {middle} e goes e_starts is begins blocks =
-    let same : middle ≡ before = not_ended {ending = ending} e goes in record {
+    let same : middle ≡ before = not_ended e goes in record {
       starts = sym (ap (λ bs. starts_innermost bs ending before.rest) blocks) ∙ ap (λ c. starts_innermost c.blocks ending c.rest) (sym same) ∙ sym is ∙ e_starts;
       rest = ap (λ c. c.rest) begins ∙ ap (λ c. mark false c.rest) same;
       blocks = ap (λ c. c.blocks) begins ∙ ap (λ c. c.blocks) same;
     }
 
 -- a closing brace ends a block in braces
-brace_closes : {item : Item} → IsRightBrace item → is_close_brace (role_of item.lexeme) ≡ true
+brace_closes : (item : Item) → IsRightBrace item → is_close_brace (role_of item.lexeme) ≡ true
 unfolding role_of
-brace_closes h = ap₂ (λ class text. is_close_brace (role_by class text)) h.0 h.1 ∙ refl
+brace_closes item h = ap₂ (λ class text. is_close_brace (role_by class text)) h.0 h.1 ∙ refl
 
 brace_in : (rest : List Placed) (end : Pos) (outer : List OpenBlock) (behind_of : Bool) (brace right : Item) {after : Standing} → IsAhead IsRightBrace (OpenBlock.Explicit ∷ outer) rest → next_of rest ≡ Some right
     → after ≡ taken (record { rest = rest; end = end; blocks = OpenBlock.Explicit ∷ outer; behind_of = behind_of })
@@ -110,8 +110,8 @@ brace_in (next ∷ rest) end outer behind_of brace right h there goes =
     let item : next.item ≡ right = cc there in record {
       right = right;
       layout = refl;
-      brace = (subst IsRightBrace item h.1, (h.0, (item, ap (λ c. c.rest) goes)));
-      blocks = ap (λ c. c.blocks) goes ∙ ap (λ closes. if closes then outer else OpenBlock.Explicit ∷ outer) (brace_closes h.1);
+      brace = (subst IsRightBrace item h.1, (h.0, item, ap (λ c. c.rest) goes));
+      blocks = ap (λ c. c.blocks) goes ∙ ap (λ closes. if closes then outer else OpenBlock.Explicit ∷ outer) (brace_closes next.item h.1);
     }
 
 pub ends_braces : {outer : List OpenBlock} {brace right : Item} {before after : Standing} → IsAhead IsRightBrace before.blocks before.rest → next_of before.rest ≡ Some right → after ≡ taken before
@@ -125,8 +125,8 @@ ends_braces {outer} {brace} {right} {before} {after} h there goes blocks =
 -- a `;` that is next
 next_semicolon : (rest : List Placed) → IsNext IsSemicolon rest → (item : Item) × (next_of rest ≡ Some item) × IsSemicolon item
 next_semicolon [] h = elim h [ ]
-next_semicolon (next ∷ rest) h = (next.item, (refl, h))
+next_semicolon (next ∷ rest) h = (next.item, refl, h)
 
-pub took_semicolon : {found : Option Item} {before after : Standing} → IsNext IsSemicolon before.rest → found ≡ next_of before.rest → after ≡ taken before → MayTakeSemicolon found before after
-took_semicolon {found} {before} {after} h e goes =
-    let n = next_semicolon before.rest h in subst (λ f. MayTakeSemicolon f before after) (sym (e ∙ n.1)) (n.2, (n.1, goes))
+pub took_semicolon : (before : Standing) {found : Option Item} {after : Standing} → IsNext IsSemicolon before.rest → found ≡ next_of before.rest → after ≡ taken before → MayTakeSemicolon found before after
+took_semicolon before {found} {after} h e goes =
+    let n = next_semicolon before.rest h in subst (λ f. MayTakeSemicolon f before after) (sym (e ∙ n.1)) (n.2, n.1, goes)

@@ -59,9 +59,9 @@ pub number_pattern : {number : Item} {part : Part Pat} → part ≡ record { tre
 number_pattern e place a b p = made e (literal_at place (integer_is p))
 
 -- with the minus before it
-pub without_minus : {twin : Twin} {part : Part Pat} → ((place : PatPlace) (a b : Standing) → ReadsTwin place twin a b → ReadsPat place part a b) → (a b c : Standing) → Accepts IsMinus None a b → ReadsTwin PatPlace.Operand twin b c
+pub without_minus : (twin : Twin) → {part : Part Pat} → ((place : PatPlace) (a b : Standing) → ReadsTwin place twin a b → ReadsPat place part a b) → (a b c : Standing) → Accepts IsMinus None a b → ReadsTwin PatPlace.Operand twin b c
     → ReadsPat PatPlace.Operand part a c
-without_minus h a b c e p = unmoved e (h PatPlace.Operand b c p)
+without_minus twin h a b c e p = unmoved e (h PatPlace.Operand b c p)
 
 pub with_minus : {minus number same : Item} {part : Part Pat} → part ≡ record { tree = Negative same number; height = 1 } → same ≡ minus → (a b c : Standing) → Accepts IsMinus (Some minus) a b → ReadsTwin PatPlace.Operand (Twin.Number number) b c
     → ReadsPat PatPlace.Operand part a c
@@ -72,31 +72,31 @@ pub applied_begins : {named : Constructor} {none : Many Pat} → none ≡ record
     → MayApplied (Some (record { constructor = named; patterns = none })) a b
 applied_begins e a b p = record { middle = b; named = p; patterns = no_arguments b e }
 
-pub argument_more : {applied : Applied} {twin : Twin} {part : Part Pat} {more : Many Pat} → ((place : PatPlace) (a b : Standing) → ReadsTwin place twin a b → ReadsPat place part a b) → more ≡ more_trees applied.patterns part
+pub argument_more : (twin : Twin) → {applied : Applied} {part : Part Pat} {more : Many Pat} → ((place : PatPlace) (a b : Standing) → ReadsTwin place twin a b → ReadsPat place part a b) → more ≡ more_trees applied.patterns part
     → (a b c : Standing) → MayApplied (Some applied) a b → MayTwin PatPlace.Atomic (Some twin) b c → MayApplied (Some (record { constructor = applied.constructor; patterns = more })) a c
-argument_more h e a b c p q = record { middle = p.middle; named = p.named; patterns = one_argument p.patterns (h PatPlace.Atomic b c q) e }
+argument_more twin h e a b c p q = record { middle = p.middle; named = p.named; patterns = one_argument p.patterns (h PatPlace.Atomic b c q) e }
 
 pub applied_pattern : {head : Applied} {part : Part Pat} → 1 + head.patterns.height ≤ 256 → part ≡ applied_of head.constructor head.patterns → (a b : Standing) → MayApplied (Some head) a b → MayTwin PatPlace.Operand (Some (Twin.Pattern part)) a b
 applied_pattern fits e a b p = made e (applied_read (omega (arith, fits)) p.named p.patterns)
 
 -- parts with commas
-pub part_more : {parts more : Parts Pat} {twin : Twin} {part : Part Pat} {comma same : Item} → ((place : PatPlace) (a b : Standing) → ReadsTwin place twin a b → ReadsPat place part a b) → same ≡ comma
+pub part_more : (twin : Twin) → {parts more : Parts Pat} {part : Part Pat} {comma same : Item} → ((place : PatPlace) (a b : Standing) → ReadsTwin place twin a b → ReadsPat place part a b) → same ≡ comma
     → more ≡ more_parts parts part (Some same) → (a b c d : Standing) → MayParts (Some parts) a b → MayTwin PatPlace.Whole (Some twin) b c → Takes IsComma comma c d → MayParts (Some more) a d
-part_more {parts} {part = part} {comma} h same e a b c d p q r =
+part_more twin {parts} {part = part} {comma} h same e a b c d p q r =
     subst (λ t. ReadsEach t.height with_comma t.list a d) (sym (e ∙ ap (λ item. more_parts parts part (Some item)) same))
     (each_more (max parts.height part.height) p (left_of_max parts.height part.height) (then (h PatPlace.Whole b c q) (omega arith) (last_item r)) (right_of_max parts.height part.height))
 
 one_longer : {T : Type 0} (xs : List T) (x : T) → length (xs ++ x ∷ []) ≡ length xs + 1
 one_longer xs x = omega (arith, length-append xs (x ∷ []))
 
-pub count_more : {parts more : Parts Pat} {part : Part Pat} {separator : Option Item} → more ≡ more_parts parts part separator → (count : ℕ) → AsMany (Some parts) count → AsMany (Some more) (count + 1)
-count_more {parts} {part = part} {separator} e count p = ap (λ t. length t.list) e ∙ one_longer parts.list (record { part = part.tree; separator = separator }) ∙ ap (λ n. n + 1) p
+pub count_more : (parts : Parts Pat) (part : Part Pat) (separator : Option Item) {more : Parts Pat} → more ≡ more_parts parts part separator → (count : ℕ) → AsMany (Some parts) count → AsMany (Some more) (count + 1)
+count_more parts part separator e count p = ap (λ t. length t.list) e ∙ one_longer parts.list (record { part = part.tree; separator = separator }) ∙ ap (λ n. n + 1) p
 
 -- in brackets
-pub group_pattern : {left right first last : Item} {twin : Twin} {part found : Part Pat} → ((place : PatPlace) (a b : Standing) → ReadsTwin place twin a b → ReadsPat place part a b) → 1 + part.height ≤ 256 → first ≡ left → last ≡ right
+pub group_pattern : (twin : Twin) → {left right first last : Item} {part found : Part Pat} → ((place : PatPlace) (a b : Standing) → ReadsTwin place twin a b → ReadsPat place part a b) → 1 + part.height ≤ 256 → first ≡ left → last ≡ right
     → found ≡ record { tree = Group first part.tree last; height = deeper part.height } → (a b c d : Standing) → Takes IsLeftParen left a b → MayTwin PatPlace.Whole (Some twin) b c → Takes IsRightParen right c d
     → MayTwin PatPlace.Atomic (Some (Twin.Pattern found)) a d
-group_pattern {left} {right} {part = part} h fits first last e a b c d p q r =
+group_pattern twin {left} {right} {part = part} h fits first last e a b c d p q r =
     made (e ∙ ap (λ l. record { tree = Group l part.tree _; height = deeper part.height }) first ∙ ap (λ l. record { tree = Group left part.tree l; height = deeper part.height }) last)
     (closed_read {separated = record { others = record { list = []; height = 0 }; last = part }} (omega (arith, fits)) (omega arith) p (only_pattern refl (h PatPlace.Whole b c q)) r)
 
@@ -105,10 +105,10 @@ closed_tuple : (left : Item) (xs : List (Listed Pat)) (h : ℕ) (part : Part Pat
 closed_tuple left [] h part right some = absurd (omega (arith, some))
 closed_tuple left (x ∷ xs) h part right some = refl
 
-pub tuple_pattern : {left right first end : Item} {parts more : Parts Pat} {twin : Twin} {part found : Part Pat} → ((place : PatPlace) (a b : Standing) → ReadsTwin place twin a b → ReadsPat place part a b) → 1 + more.height ≤ 256
+pub tuple_pattern : (twin : Twin) → {left right first end : Item} {parts more : Parts Pat} {part found : Part Pat} → ((place : PatPlace) (a b : Standing) → ReadsTwin place twin a b → ReadsPat place part a b) → 1 + more.height ≤ 256
     → first ≡ left → end ≡ right → more ≡ more_parts parts part None → found ≡ record { tree = Tuple first more.list end; height = deeper more.height } → (count : ℕ) (a b m c d : Standing) → AsMany (Some parts) count → 1 ≤ count → count ≤ 14
     → Takes IsLeftParen left a b → MayParts (Some parts) b m → MayTwin PatPlace.Whole (Some twin) m c → Takes IsRightParen right c d → MayTwin PatPlace.Atomic (Some (Twin.Pattern found)) a d
-tuple_pattern {left} {right} {parts = parts} {part = part} h fits first end e f count a b m c d many some few p others q r =
+tuple_pattern twin {left} {right} {parts = parts} {part = part} h fits first end e f count a b m c d many some few p others q r =
     made (f ∙ ap (λ l. record { tree = Tuple l _ _; height = deeper _ }) first ∙ ap (λ l. record { tree = Tuple left _ l; height = deeper _ }) end ∙ ap (λ t. record { tree = Tuple left t.list right; height = deeper t.height }) e
     ∙ closed_tuple left parts.list parts.height part right (omega (arith, many, some)))
     (closed_read {separated = record { others = parts; last = part }} (closed_fits left parts.list parts.height part right (omega (arith, fits, ap (λ t. t.height) e))) (omega (arith, many, few)) p
@@ -118,25 +118,25 @@ tuple_pattern {left} {right} {parts = parts} {part = part} h fits first end e f 
     closed_fits left [] h part right p = omega (arith, p)
     closed_fits left (x ∷ xs) h part right p = omega (arith, p)
 
-pub list_pattern : {left right first end : Item} {parts more : Parts Pat} {twin : Twin} {part found : Part Pat} → ((place : PatPlace) (a b : Standing) → ReadsTwin place twin a b → ReadsPat place part a b) → 1 + more.height ≤ 256
+pub list_pattern : (twin : Twin) → {left right first end : Item} {parts more : Parts Pat} {part found : Part Pat} → ((place : PatPlace) (a b : Standing) → ReadsTwin place twin a b → ReadsPat place part a b) → 1 + more.height ≤ 256
     → first ≡ left → end ≡ right → more ≡ more_parts parts part None → found ≡ record { tree = ListOf first more.list end; height = deeper more.height } → (a b m c d : Standing)
     → Takes IsLeftSquare left a b → MayParts (Some parts) b m → MayTwin PatPlace.Whole (Some twin) m c → Takes IsRightSquare right c d → MayTwin PatPlace.Atomic (Some (Twin.Pattern found)) a d
-list_pattern {left} {right} {parts = parts} {part = part} h fits first end e f a b m c d p others q r =
+list_pattern twin {left} {right} {parts = parts} {part = part} h fits first end e f a b m c d p others q r =
     made (f ∙ ap (λ l. record { tree = ListOf l _ _; height = deeper _ }) first ∙ ap (λ l. record { tree = ListOf left _ l; height = deeper _ }) end ∙ ap (λ t. record { tree = ListOf left t.list right; height = deeper t.height }) e)
     (square_read {separated = record { others = parts; last = part }} (omega (arith, fits, ap (λ t. t.height) e)) p (record { middle = m; others = others; last = h PatPlace.Whole m c q }) r)
 
 -- operands with operators
-pub operand_more : {operands more : Operands Pat} {minus : Option Item} {twin : Twin} {part : Part Pat} {operator same : Operator} → ((a b c : Standing) → Accepts IsMinus minus a b → ReadsTwin PatPlace.Operand twin b c → ReadsPat PatPlace.Operand part a c)
+pub operand_more : (minus : Option Item) (twin : Twin) → {operands more : Operands Pat} {part : Part Pat} {operator same : Operator} → ((a b c : Standing) → Accepts IsMinus minus a b → ReadsTwin PatPlace.Operand twin b c → ReadsPat PatPlace.Operand part a c)
     → same ≡ operator → more ≡ more_operands operands None part (Some same) → (a b c d e : Standing) → MayOperands (Some operands) a b → Accepts IsMinus minus b c → MayTwin PatPlace.Operand (Some twin) c d
     → Spells IsConstructorOperator operator_items operator d e → MayOperands (Some more) a e
-operand_more {operands} {part = part} h same f a b c d e p q r s =
+operand_more minus twin {operands} {part = part} h same f a b c d e p q r s =
     subst (λ t. ReadsEach t.height with_operator t.list a e) (sym (f ∙ ap (λ o. more_operands operands None part (Some o)) same))
     (each_more (max operands.height part.height) p (left_of_max operands.height part.height) (where_given _ refl (then (h b c d q r) (omega arith) (last_name s))) (right_of_max operands.height part.height))
 
-pub sequence_pattern : {operands : Operands Pat} {minus : Option Item} {twin : Twin} {part found : Part Pat} → ((a b c : Standing) → Accepts IsMinus minus a b → ReadsTwin PatPlace.Operand twin b c → ReadsPat PatPlace.Operand part a c)
+pub sequence_pattern : (minus : Option Item) (twin : Twin) → {operands : Operands Pat} {part found : Part Pat} → ((a b c : Standing) → Accepts IsMinus minus a b → ReadsTwin PatPlace.Operand twin b c → ReadsPat PatPlace.Operand part a c)
     → 1 + max operands.height part.height ≤ 256 → found ≡ infix_of operands part → (a b c d : Standing) → MayOperands (Some operands) a b → Accepts IsMinus minus b c → MayTwin PatPlace.Operand (Some twin) c d
     → MayTwin PatPlace.Whole (Some (Twin.Pattern found)) a d
-sequence_pattern {operands} {part = part} h fits e a b c d p q r =
+sequence_pattern minus twin {operands} {part = part} h fits e a b c d p q r =
     made e (infix_read {operands = operands} {part = part} (infix_fits operands.list operands.height part fits) (record { middle = b; others = p; last = h b c d q r }))
   where
     infix_fits : (xs : List (Operand Pat)) (h : ℕ) (part : Part Pat) → 1 + max h part.height ≤ 256 → (infix_by xs h part).height ≤ 257

@@ -39,13 +39,13 @@ made_atom {free} {a = a} {b} e p = subst (λ t. EndsExp free ExpPlace.Atom t.hei
 
 pub list_made : {left right : Item} {before all : Parts Exp} {inner exp : Part Exp} {a b c d f : Standing} → exp ≡ record { tree = ListOf left all.list right; height = all.height + 1 } → all ≡ more_parts before inner None → Takes IsLeftSquare left a b
     → ReadsExps before b c → ReadsExp Colons.Allowed ExpPlace.Whole inner c d → Takes IsRightSquare right d f → (free : Colons) → EndsExp free ExpPlace.Atom exp.height exp.tree (Ending.Applied true false) a f
-list_made {before = before} {inner = inner} e more p q r s free = made_atom e (list_read free ExpPlace.Atom (exps_some {parts = before} {part = inner} more) p (exps_end {parts = before} {part = inner} more q r) s)
+list_made {before = before} {inner = inner} e more p q r s free = made_atom e (list_read free ExpPlace.Atom (exps_some before inner more) p (exps_end {parts = before} {part = inner} more q r) s)
 
 pub tuple_made : {left right : Item} {before all : Parts Exp} {inner exp : Part Exp} {a b c d f : Standing} → exp ≡ record { tree = Tuple left all.list right; height = all.height + 1 } → all ≡ more_parts before inner None → length before.list ≤ 14
     → 1 ≤ length before.list → Takes IsLeftParen left a b → ReadsExps before b c → ReadsExp Colons.Allowed ExpPlace.Whole inner c d → Takes IsRightParen right d f → (free : Colons)
     → EndsExp free ExpPlace.Atom exp.height exp.tree (Ending.Applied true false) a f
 tuple_made {before = before} {all} {inner} e more few some p q r s free =
-    made_atom e (tuple_read free ExpPlace.Atom all.list (exps_few {parts = before} {part = inner} more few some) p (exps_end {parts = before} {part = inner} more q r) s)
+    made_atom e (tuple_read free ExpPlace.Atom all.list (exps_few before inner more few some) p (exps_end {parts = before} {part = inner} more q r) s)
 
 -- arithmetic sequences
 pub from_made : (dots : Dots) {mark right : Item} {exp : Part Exp} {a b c d : Standing} → exp ≡ from_of dots mark right → BeforeDots dots a b → Takes IsDots mark b c → Takes IsRightSquare right c d → (free : Colons)
@@ -110,5 +110,5 @@ pub comprehension_made : {begun : Comprehension} {all : Parts Qualifier} {end : 
     → Consumes end.height (λ below n. qualifier_over below n end.tree) b c → Takes IsRightSquare right c d → (free : Colons) → EndsExp free ExpPlace.Atom exp.height exp.tree (Ending.Applied true false) a d
 comprehension_made {begun} {all} {end} e more w q r free =
     made_atom e
-    (comprehension_read free ExpPlace.Atom (right_of_max all.height begun.first.height) (left_of_max all.height begun.first.height) (qualifiers_some {parts = begun.qualifiers} {part = end} more) w.left w.first w.bar
-    (qualifiers_end {parts = begun.qualifiers} {part = end} more w.qualifiers q) r)
+    (comprehension_read free ExpPlace.Atom (right_of_max all.height begun.first.height) (left_of_max all.height begun.first.height) (qualifiers_some begun.qualifiers end more) w.left w.first w.bar
+    (qualifiers_end end {parts = begun.qualifiers} more w.qualifiers q) r)

@@ -7,15 +7,18 @@ use Rattle.hr_rules.specs.declared.block.Placed.{Placed}
 use Rattle.hr_rules.specs.Roles.{role_of, role_by}
 use Rattle.hr_layout.specs.Standing.{is_of, next_of, Standing, taken}
 use Rattle.hr_parse_lexeme.specs.declared.mark.Mark.{Mark}
-use Rattle.hr_parse_lexeme.specs.Marks.{IsMark}
+use Rattle.hr_parse_lexeme.specs.Marks.{IsMark, mark_class, mark_text}
 use Rattle.hr_parse_lexeme.specs.Reads.{Accepts, IsAhead, Takes}
 use Rattle.hr_parse_lexeme.proofs.Taking.{took_mark}
 use Rattle.hr_parse_parts.specs.Words.{OpensDeclarations}
 
+word_is : (mark : Mark) → OpensDeclarations mark → is_of (role_by (mark_class mark) (mark_text mark)) ≡ false
+word_is Mark.Of opens = elim opens [ ]
+word_is _ opens = refl
+
 word_opens : (mark : Mark) → OpensDeclarations mark → (item : Item) → IsMark mark item → is_of (role_of item.lexeme) ≡ false
 unfolding role_of
-word_opens Mark.Let opens item h = ap₂ (λ class text. is_of (role_by class text)) h.0 h.1 ∙ refl
-word_opens Mark.Where opens item h = ap₂ (λ class text. is_of (role_by class text)) h.0 h.1 ∙ refl
+word_opens mark opens item h = ap₂ (λ class text. is_of (role_by class text)) h.0 h.1 ∙ word_is mark opens
 
 of_opens : (item : Item) → IsMark Mark.Of item → is_of (role_of item.lexeme) ≡ true
 unfolding role_of
@@ -30,11 +33,11 @@ behind_in wanted (next ∷ rest) end blocks behind_of item there goes is =
 pub word_taken : (mark : Mark) {item : Item} {before after : Standing} → IsAhead (IsMark mark) before.blocks before.rest → next_of before.rest ≡ Some item → after ≡ taken before → Takes (IsMark mark) item before after
 word_taken mark {item} {before} {after} ahead there goes = took_mark mark (Some item) before after ahead (sym there) goes
 
-pub opens_declarations : (mark : Mark) {item : Item} {before after : Standing} → OpensDeclarations mark → IsAhead (IsMark mark) before.blocks before.rest → next_of before.rest ≡ Some item → after ≡ taken before
+pub opens_declarations : (mark : Mark) (before : Standing) {item : Item} {after : Standing} → OpensDeclarations mark → IsAhead (IsMark mark) before.blocks before.rest → next_of before.rest ≡ Some item → after ≡ taken before
     → after.behind_of ≡ false
-opens_declarations mark {item} {before} {after} opens ahead there goes =
+opens_declarations mark before {item} {after} opens ahead there goes =
     behind_in false before.rest before.end before.blocks before.behind_of item there goes (word_opens mark opens item (word_taken mark ahead there goes).is)
 
-pub opens_alternatives : {item : Item} {before after : Standing} → IsAhead (IsMark Mark.Of) before.blocks before.rest → next_of before.rest ≡ Some item → after ≡ taken before → after.behind_of ≡ true
-opens_alternatives {item} {before} {after} ahead there goes =
+pub opens_alternatives : (before : Standing) {item : Item} {after : Standing} → IsAhead (IsMark Mark.Of) before.blocks before.rest → next_of before.rest ≡ Some item → after ≡ taken before → after.behind_of ≡ true
+opens_alternatives before {item} {after} ahead there goes =
     behind_in true before.rest before.end before.blocks before.behind_of item there goes (of_opens item (word_taken Mark.Of ahead there goes).is)
