@@ -1,6 +1,6 @@
 //! What the readers of expressions, declarations and blocks share: what is read next and what waits for it, what was
 //! read, patterns that have the lexemes of an expression, and the pieces of blocks.
-#![tactic(none)]
+#![tactic(auto)]
 
 mod blocks;
 mod brackets;
