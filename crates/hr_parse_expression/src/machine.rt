@@ -35,7 +35,7 @@ fn read(alloc: Global, cursor: &mut Cursor, notes: &mut Notes, goal: Goal) -> Re
     let mut stack = Stack::new(alloc);
     let mut step = go(goal);
     for _ in 0..STEPS {
-        match turn(alloc, cursor, notes, &mut stack, step)? {
+        match follow(alloc, cursor, notes, &mut stack, step)? {
             Turn::End(value) => return Ok(value.take()),
             Turn::Step(next) => step = next,
         }
@@ -51,7 +51,7 @@ enum Turn {
 }
 
 /// What a step leads to, with the frames that wait.
-fn turn(
+fn follow(
     alloc: Global,
     cursor: &mut Cursor,
     notes: &mut Notes,
