@@ -1,0 +1,27 @@
+use Rattle.hr_grammar.specs.Nodes.{PatPlace}
+use Rattle.hr_parse_left.proofs.Fronts.{at_reached, reached_fits}
+use Rattle.hr_parse_pattern.proofs.Names.{same_name}
+use Rattle.hr_parse_pattern.proofs.Patterns.{made, variable_read}
+use Rattle.hr_parse_left.proofs.front.close.Goals as goal
+
+pub returns-in_ok-next-in-Variable-clause-reads : goal.returns-in_ok-next-in-Variable-clause-reads
+returns-in_ok-next-in-Variable-clause-reads c =
+    λ before h. c.in_ok-next-in-Variable.ensures.reads before
+    (record {
+      middle = h.middle;
+      opens = h.opens;
+      pattern = made c.in_ok-part-in-Variable.ensures (variable_read PatPlace.Whole (same_name c.take.ensures (at_reached PatPlace.Whole h.middle c.args.cursor.now c.in-Variable.is h.reached)));
+    })
+
+pub returns-in_ok-next-in-Pattern-clause-reads : goal.returns-in_ok-next-in-Pattern-clause-reads
+returns-in_ok-next-in-Pattern-clause-reads c =
+    λ before h. c.in_ok-next-in-Pattern.ensures.reads before
+    (record { middle = h.middle; opens = h.opens; pattern = at_reached PatPlace.Whole h.middle c.args.cursor.now c.in-Pattern.is h.reached })
+
+pub returns-in_ok-left-in-Left-clause-reads : goal.returns-in_ok-left-in-Left-clause-reads
+returns-in_ok-left-in-Left-clause-reads c =
+    λ before h. record {
+      middle = h.middle;
+      opens = h.opens;
+      reached = c.in_ok-left-in-Left.ensures.reads h.middle (at_reached PatPlace.Whole h.middle c.args.cursor.now c.in-Left.is h.reached);
+    }
