@@ -162,3 +162,16 @@ closed_one left {height = height} {right} {many} {a} {d = d} p q r some e f =
     subst (λ t. ReadsLeft (record { head = left.head; closes = t; height = height }) a d) (sym e)
     (subst (λ h. ReadsLeft (record { head = left.head; closes = left.closes ++ record { right = right; patterns = many.list } ∷ []; height = h }) a d) (sym f)
     (closes_one left.head left.closes (record { right = right; patterns = many.list }) p (item q (where_given _ some r.reads))))
+
+-- heights of what is put together
+pub level_fits : {level : Level} {list : List Item} (reached : Reached) (most : ℕ) → level ≡ record { opens = list; reached = reached } → reached_height reached ≤ most → reached_height level.reached ≤ most
+level_fits reached most e p = subst (λ l. reached_height l.reached ≤ most) (sym e) p
+
+pub headed_fits : {found reached : Reached} (most : ℕ) → found ≡ reached → reached_height reached ≤ most → reached_height found ≤ most
+headed_fits most e p = subst (λ r. reached_height r ≤ most) (sym e) p
+
+within_both : (height before most : ℕ) → height ≤ max before most → before ≤ most → height ≤ most
+within_both height before most p q = omega arith
+
+pub closes_fit : {found : Reached} (left : Left) (height most : ℕ) → found ≡ Reached.Left left → height ≤ max left.height most → reached_height found ≤ most → height ≤ most
+closes_fit left height most e p q = within_both height left.height most p (reached_fits most e q)

@@ -60,11 +60,12 @@ pub fn beginning(
 {
     let mut level = first(alloc, cursor, notes, depth)?;
     for _ in 0..level.opens.list.len() {
-        level = behind(alloc, cursor, notes, depth, level)?;
-        level = close(alloc, cursor, notes, depth, level)?;
+        let inner = behind(alloc, cursor, notes, depth, level)?;
+        let outer = close(alloc, cursor, notes, depth, inner)?;
+        level = outer;
     }
-    let level = behind(alloc, cursor, notes, depth, level)?;
-    whole(level)
+    let last = behind(alloc, cursor, notes, depth, level)?;
+    Ok(whole(last)?)
 }
 
 /// What was read, where each parenthesis that opens has closed: those of a left side stay with it.
@@ -204,9 +205,10 @@ fn close_left(
         right,
         patterns: list,
     })?;
+    let height = levels.max(height);
     Ok(Left {
         head,
         closes,
-        height: levels.max(height),
+        height,
     })
 }

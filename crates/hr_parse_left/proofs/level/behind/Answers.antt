@@ -23,3 +23,9 @@ returns-in-Left-clause-reads c = λ before h. record { middle = h.middle; opens 
 
 pub returns-in-Left-clause-fits : goal.returns-in-Left-clause-fits
 returns-in-Left-clause-fits c = λ p. reached_fits _ c.in-Left.is p
+
+pub returns-in_ok-reached-in-Variable-clause-fits : goal.returns-in_ok-reached-in-Variable-clause-fits
+returns-in_ok-reached-in-Variable-clause-fits c = λ p. c.in_ok-reached-in-Variable.ensures.fits
+
+pub returns-in_ok-reached-in-Pattern-clause-fits : goal.returns-in_ok-reached-in-Pattern-clause-fits
+returns-in_ok-reached-in-Pattern-clause-fits c = λ p. c.in_ok-reached-in-Pattern.ensures.fits

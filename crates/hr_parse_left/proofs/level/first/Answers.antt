@@ -1,5 +1,5 @@
 use Rattle.hr_grammar.specs.Nodes.{PatPlace}
-use Rattle.hr_parse_left.proofs.Fronts.{level_read, no_opens, one_open, opens_stay}
+use Rattle.hr_parse_left.proofs.Fronts.{level_fits, level_read, no_opens, one_open, opens_stay}
 use Rattle.hr_parse_pattern.proofs.Shorter.{takes_shorter}
 use Rattle.hr_parse_left.proofs.level.first.Goals as goal
 
@@ -20,3 +20,12 @@ returns-then-is_bracketed-clause-reads c = level_read PatPlace.Operand c.in_ok-r
 
 pub returns-clause-reads : goal.returns-clause-reads
 returns-clause-reads c = level_read PatPlace.Operand c.in_ok-reached-2.reached c.level_of-2.ensures (opens_stay c.in_default.ensures c.loop-left.invariant) c.in_ok-reached-2.ensures.reads
+
+pub returns-then-is_next-clause-fits : goal.returns-then-is_next-clause-fits
+returns-then-is_next-clause-fits c = c.in_ok-level.ensures.fits
+
+pub returns-then-is_bracketed-clause-fits : goal.returns-then-is_bracketed-clause-fits
+returns-then-is_bracketed-clause-fits c = level_fits c.in_ok-reached.reached _ c.level_of.ensures c.in_ok-reached.ensures.fits
+
+pub returns-clause-fits : goal.returns-clause-fits
+returns-clause-fits c = level_fits c.in_ok-reached-2.reached _ c.level_of-2.ensures c.in_ok-reached-2.ensures.fits
