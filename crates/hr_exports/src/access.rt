@@ -1,5 +1,8 @@
-ghost use Rattle.std.specs.Prelude.{◌≡◌, IfOk, is_some};
-ghost use Rattle.hr_scope_rules.specs.Imports.{alias_of};
+ghost use Rattle.std.specs.Prelude.{◌≡◌, ◌∷◌, [], IfOk, option_copied};
+ghost use Rattle.std.specs.Option.{option_to_list};
+ghost use Rattle.hr_scope_rules.specs.Modules.{module_name};
+ghost use Rattle.hr_scope_rules.specs.Imports as rules;
+ghost use Rattle.hr_exports.specs.Imports.{access_seen, accesses_seen, names_prelude};
 
 use hr_base::Text;
 use hr_tree::{Decl, Import, ImportNames, Module, Piece};
@@ -20,26 +23,76 @@ pub(crate) fn accesses<'a>(
     alloc: Global,
     name: &Text,
     tree: &'a Module,
-) -> Result<Vec<Access<'a>>, AllocError> {
-    let mut accesses = Vec::new(alloc);
-    let mut implicit = !name.is(b"Prelude");
+) -> Result<Vec<Access<'a>>, AllocError>
+    ensures { IfOk result (λ list. name.now ≡ module_name tree.now → accesses_seen list.items ≡ rules.accesses tree.now) }
+{
+    let mut written = written_accesses(alloc, tree)?;
+    if name.as_slice() == b"Prelude".as_slice() {
+        return Ok(written);
+    }
+    if names_prelude(written.as_slice()) {
+        return Ok(written);
+    }
+    written.insert(0, whole_prelude(alloc)?)?;
+    Ok(written)
+}
+
+/// Those that are written.
+fn written_accesses<'a>(
+    alloc: Global,
+    tree: &'a Module,
+) -> Result<Vec<Access<'a>>, AllocError>
+    ensures { IfOk result (λ list. accesses_seen list.items ≡ rules.written_accesses tree.now) }
+{
+    let mut list = Vec::new(alloc);
     for piece in tree.body.pieces.as_slice() {
-        if let Piece::Part(Decl::Import(import)) = piece {
-            implicit = implicit && !import.module.lexeme.text.is(b"Prelude");
-            accesses.push(access_of(import)?)?;
+        if let Some(import) = import_in(piece) {
+            list.push(access_of(import)?)?;
         }
     }
-    if implicit {
-        accesses.push(whole_prelude(alloc)?)?;
+    Ok(list)
+}
+
+/// The import that a piece is, if it is one.
+fn import_in(piece: &Piece<Decl>) -> Option<&Import>
+    ensures { option_to_list (option_copied result) ≡ rules.piece_imports piece.now }
+{
+    match piece {
+        Piece::Semicolon(_) => None,
+        Piece::Part(decl) => import_of(decl),
     }
-    Ok(accesses)
+}
+
+fn import_of(decl: &Decl) -> Option<&Import>
+    ensures { option_to_list (option_copied result) ≡ rules.piece_imports (Piece.Part decl.now) }
+{
+    match decl {
+        Decl::Import(import) => Some(import),
+        Decl::Synonym(..) => None,
+        Decl::Data(..) => None,
+        Decl::Newtype(..) => None,
+        Decl::Signature(..) => None,
+        Decl::Fixity(..) => None,
+        Decl::Equation(..) => None,
+        Decl::Binding(..) => None,
+    }
+}
+
+/// Whether some import names Prelude.
+fn names_prelude(list: &[Access<'_>]) -> bool
+    ensures { result ≡ names_prelude (accesses_seen list.now) }
+{
+    for access in list {
+        if access.origin.as_slice() == b"Prelude".as_slice() {
+            return true;
+        }
+    }
+    false
 }
 
 /// What an import says: `as Q` gives the qualifier in place of the module's name.
 fn access_of(import: &Import) -> Result<Access<'_>, AllocError>
-    ensures origin { IfOk result (λ access. access.origin ≡ import.now.«module».lexeme.text) }
-    ensures qualifier { IfOk result (λ access. access.qualifier ≡ alias_of import.now.«module».lexeme.text import.now.alias) }
-    ensures qualified { IfOk result (λ access. access.qualified ≡ is_some import.now.qualified) }
+    ensures { IfOk result (λ access. access_seen access ≡ rules.access_of import.now) }
 {
     let origin = &import.module.lexeme.text;
     let qualifier = match &import.alias {
@@ -54,7 +107,9 @@ fn access_of(import: &Import) -> Result<Access<'_>, AllocError>
     })
 }
 
-fn whole_prelude<'a>(alloc: Global) -> Result<Access<'a>, AllocError> {
+fn whole_prelude<'a>(alloc: Global) -> Result<Access<'a>, AllocError>
+    ensures { IfOk result (λ access. access_seen access ≡ rules.whole_prelude) }
+{
     let origin = Text::from_slice(alloc, b"Prelude")?;
     Ok(Access {
         qualifier: origin.clone()?,

@@ -1,3 +1,8 @@
+ghost use Rattle.std.specs.Prelude.{◌≡◌, ◌+◌, IfOk, OnOk, map, option_copied, slice_get};
+ghost use Rattle.hr_outline.specs.Seen.{joined_seen, mark_seen, seen};
+ghost use Rattle.hr_scope_rules.specs.Outline.{outline};
+ghost use Rattle.hr_sequences.specs.Sequences.{begun_behind, begun_in, behind_name, end_behind, is_backquote, joined_behind, last_of, minus_behind, name_at, nothing_begun, operand_begins, operator_behind, put, root_put, sequences_of};
+
 use crate::{Sequence, SequencePart};
 use hr_base::Seq;
 use hr_outline::{Joined, Mark, Outline, outline_of};
@@ -27,12 +32,17 @@ struct Open {
 
 /// The sequences of a module in the order of their first lexemes; of two that begin together, or of which one
 /// stands in the other, the outer one comes first.
-pub fn sequences_of(alloc: Global, tree: &Module) -> Result<Vec<Sequence>, AllocError> {
+pub fn sequences_of(alloc: Global, tree: &Module) -> Result<Vec<Sequence>, AllocError>
+    ensures { IfOk result (λ list. list.items ≡ sequences_of (outline tree.now)) }
+{
     sequences_in(alloc, &outline_of(alloc, tree)?)
 }
 
 /// The same, from the outline of the module.
-pub fn sequences_in(alloc: Global, outline: &Outline<'_>) -> Result<Vec<Sequence>, AllocError> {
+#[tactic(auto, unfolding(hr_outline::specs::Seen::seen, crate::specs::Sequences::sequences_of))]
+pub fn sequences_in(alloc: Global, outline: &Outline<'_>) -> Result<Vec<Sequence>, AllocError>
+    ensures { IfOk result (λ list. list.items ≡ sequences_of (seen outline.now)) }
+{
     let mut reading = Reading {
         begun: Vec::new(alloc),
         open: Vec::new(alloc),
@@ -45,47 +55,54 @@ pub fn sequences_in(alloc: Global, outline: &Outline<'_>) -> Result<Vec<Sequence
 }
 
 impl Reading {
-    fn read(
-        &mut self,
-        alloc: Global,
-        joined: Joined,
-        marks: &[Mark<'_>],
-    ) -> Result<(), AllocError> {
+    fn read(&mut self, alloc: Global, joined: Joined, marks: &[Mark<'_>]) -> Result<(), AllocError>
+        ensures { OnOk result (begun_in self.new ≡ joined_behind (map mark_seen marks.now) (begun_in self.old) (joined_seen joined)) }
+    {
         match joined.joint {
             Joint::Expression => self.begin(alloc, joined.at, false),
             Joint::Pattern => self.begin(alloc, joined.at, true),
             Joint::Minus => self.minus(joined.at),
-            Joint::Operator => self.operator(joined.at, marks, false),
-            Joint::Root => self.operator(joined.at, marks, true),
+            Joint::Operator => self.operator(joined.at, is_backquote(marks, joined.at), false),
+            Joint::Root => self.operator(joined.at, is_backquote(marks, joined.at), true),
             Joint::End => self.end(),
         }
     }
 
     /// A sequence begins. The sequences on both sides of a left side's operator are parts of the left side.
-    fn begin(&mut self, alloc: Global, at: usize, is_pattern: bool) -> Result<(), AllocError> {
-        let outer = self.operand_begins(at);
-        let number = match outer {
-            Some(outer) => outer.number,
-            None => self.begun.len(),
-        };
-        if outer.is_none() {
-            let list = Vec::new(alloc);
-            self.begun.push(Sequence {
-                parts: Seq { list },
-                root: None,
-            })?;
+    fn begin(&mut self, alloc: Global, at: usize, is_pattern: bool) -> Result<(), AllocError>
+        ensures { OnOk result (begun_in self.new ≡ begun_behind (begun_in self.old) at is_pattern (operand_begins self.old.open.items at)) }
+    {
+        match self.operand_begins(at) {
+            Some(outer) => {
+                self.open.push(Open {
+                    number: outer.number,
+                    operand_at: at,
+                    is_pattern,
+                    is_inner: true,
+                })?;
+                Ok(())
+            }
+            None => {
+                self.open.push(Open {
+                    number: self.begun.len(),
+                    operand_at: at,
+                    is_pattern,
+                    is_inner: false,
+                })?;
+                let list = Vec::new(alloc);
+                self.begun.push(Sequence {
+                    parts: Seq { list },
+                    root: None,
+                })?;
+                Ok(())
+            }
         }
-        self.open.push(Open {
-            number,
-            operand_at: at,
-            is_pattern,
-            is_inner: outer.is_some(),
-        })?;
-        Ok(())
     }
 
     /// The innermost sequence, if an operand of it begins there.
-    fn operand_begins(&self, at: usize) -> Option<Open> {
+    fn operand_begins(&self, at: usize) -> Option<Open>
+        ensures { result ≡ operand_begins self.now.open.items at }
+    {
         match self.open.last() {
             Some(innermost) if innermost.operand_at == at => Some(*innermost),
             Some(_) => None,
@@ -94,66 +111,133 @@ impl Reading {
     }
 
     /// A minus before an operand. That of a negative integer that is no operand belongs to no sequence.
-    fn minus(&mut self, at: usize) -> Result<(), AllocError> {
+    fn minus(&mut self, at: usize) -> Result<(), AllocError>
+        ensures { OnOk result (begun_in self.new ≡ minus_behind (begun_in self.old) at (operand_begins self.old.open.items at)) }
+    {
         match self.operand_begins(at) {
-            Some(innermost) if innermost.is_pattern => {
-                self.put(innermost.number, SequencePart::PatternMinus { item: at })
-            }
-            Some(innermost) => self.put(innermost.number, SequencePart::Minus { item: at }),
+            Some(innermost) if innermost.is_pattern => put(
+                &mut self.begun,
+                innermost.number,
+                SequencePart::PatternMinus { item: at },
+            ),
+            Some(innermost) => put(
+                &mut self.begun,
+                innermost.number,
+                SequencePart::Minus { item: at },
+            ),
             None => Ok(()),
         }
     }
 
-    fn put(&mut self, number: usize, part: SequencePart) -> Result<(), AllocError> {
-        if let Some(sequence) = self.begun.get_mut(number) {
-            sequence.parts.list.push(part)?;
-        }
-        Ok(())
-    }
-
-    fn operator(&mut self, at: usize, marks: &[Mark<'_>], is_root: bool) -> Result<(), AllocError> {
-        let Some(innermost) = self.open.pop() else {
+    fn operator(&mut self, at: usize, is_quoted: bool, is_root: bool) -> Result<(), AllocError>
+        ensures { OnOk result (begun_in self.new ≡ operator_behind is_quoted (begun_in self.old) at is_root (last_of self.old.open.items)) }
+    {
+        let Some(innermost) = self.open.last().copied() else {
             return Ok(());
         };
-        let is_quoted = is_backquote(marks, at);
-        let item = at.saturating_add(usize::from(is_quoted));
-        self.put(innermost.number, SequencePart::Operand)?;
-        if is_root {
-            self.set_root(innermost.number);
-        }
-        self.put(innermost.number, SequencePart::Operator { item })?;
+        self.open.pop();
+        let item = name_at(is_quoted, at)?;
         self.open.push(Open {
             number: innermost.number,
-            operand_at: item.saturating_add(1 + usize::from(is_quoted)),
+            operand_at: behind_name(is_quoted, item)?,
             is_pattern: innermost.is_pattern,
             is_inner: innermost.is_inner,
         })?;
-        Ok(())
-    }
-
-    /// The next part of the sequence is its root.
-    fn set_root(&mut self, number: usize) {
-        if let Some(sequence) = self.begun.get_mut(number) {
-            sequence.root = u32::try_from(sequence.parts.len()).ok();
-        }
+        put(&mut self.begun, innermost.number, SequencePart::Operand)?;
+        set_root(&mut self.begun, innermost.number, is_root)?;
+        put(
+            &mut self.begun,
+            innermost.number,
+            SequencePart::Operator { item },
+        )
     }
 
     /// The innermost sequence ends with an operand.
-    fn end(&mut self) -> Result<(), AllocError> {
-        match self.open.pop() {
-            Some(innermost) if !innermost.is_inner => {
-                self.put(innermost.number, SequencePart::Operand)
-            }
-            Some(_) => Ok(()),
-            None => Ok(()),
+    fn end(&mut self) -> Result<(), AllocError>
+        ensures { OnOk result (begun_in self.new ≡ end_behind (begun_in self.old) (last_of self.old.open.items)) }
+    {
+        let Some(innermost) = self.open.last().copied() else {
+            return Ok(());
+        };
+        self.open.pop();
+        if innermost.is_inner {
+            return Ok(());
         }
+        put(&mut self.begun, innermost.number, SequencePart::Operand)
+    }
+}
+
+/// Adds a part to the sequence of that number.
+fn put(sequences: &mut Vec<Sequence>, number: usize, part: SequencePart) -> Result<(), AllocError>
+    ensures { OnOk result (sequences.new.items ≡ put sequences.old.items number part) }
+{
+    match sequences.get_mut(number) {
+        Some(sequence) => {
+            sequence.parts.list.push(part)?;
+            Ok(())
+        }
+        None => Ok(()),
+    }
+}
+
+/// The next part of the sequence of that number is its root, if it is one. One that no `u32` counts is want of memory.
+fn set_root(sequences: &mut Vec<Sequence>, number: usize, is_root: bool) -> Result<(), AllocError>
+    ensures { OnOk result (sequences.new.items ≡ root_put is_root sequences.old.items number) }
+{
+    if !is_root {
+        return Ok(());
+    }
+    match sequences.get_mut(number) {
+        Some(sequence) => {
+            let root = narrowed(sequence.parts.len())?;
+            sequence.root = Some(root);
+            Ok(())
+        }
+        None => Ok(()),
+    }
+}
+
+fn narrowed(parts: usize) -> Result<u32, AllocError>
+    ensures { IfOk result (λ number. number ≡ parts) }
+{
+    u32::try_from(parts).map_err(|_| AllocError)
+}
+
+/// Where the name of an operator stands that begins there.
+fn name_at(is_quoted: bool, at: usize) -> Result<usize, AllocError>
+    ensures { IfOk result (λ item. item ≡ name_at is_quoted at) }
+{
+    if is_quoted { behind(at, 1) } else { Ok(at) }
+}
+
+/// What stands behind the operator whose name stands there.
+fn behind_name(is_quoted: bool, item: usize) -> Result<usize, AllocError>
+    ensures { IfOk result (λ next. next ≡ behind_name is_quoted item) }
+{
+    if is_quoted {
+        behind(item, 2)
+    } else {
+        behind(item, 1)
+    }
+}
+
+/// So many lexemes behind it.
+fn behind(item: usize, count: usize) -> Result<usize, AllocError>
+    ensures { IfOk result (λ next. next ≡ item + count) }
+{
+    match item.checked_add(count) {
+        Some(next) => Ok(next),
+        None => Err(AllocError),
     }
 }
 
 /// Whether the lexeme of that number is a backquote, which stands round the name of an operator.
-fn is_backquote(marks: &[Mark<'_>], number: usize) -> bool {
+#[tactic(auto, using(std::proofs::lemmas::Option::gets))]
+fn is_backquote(marks: &[Mark<'_>], number: usize) -> bool
+    ensures { result ≡ is_backquote (slice_get (map mark_seen marks.now) number) }
+{
     match marks.get(number) {
-        Some(mark) => mark.item.lexeme.text.is(b"`"),
+        Some(mark) => mark.item.lexeme.text.as_slice() == b"`".as_slice(),
         None => false,
     }
 }

@@ -1,0 +1,2 @@
+pub mod Fixities
+pub mod Grading
