@@ -1,5 +1,6 @@
-ghost use Rattle.std.specs.Prelude.{◌≡◌};
+ghost use Rattle.std.specs.Prelude.{◌≡◌, IfOk, length};
 ghost use Rattle.hr_scope.specs.Declarers.{local_binder, local_found};
+ghost use Rattle.hr_scope.specs.Entries.{entry_counts, lexeme_counts};
 
 use crate::double::first_double;
 use crate::lists::{exported_part, hidden, imported, imported_part, standing};
@@ -29,7 +30,9 @@ pub fn bind(
     alloc: Global,
     modules: &[Module],
     interfaces: &Interfaces,
-) -> Result<Bindings, ScopeError> {
+) -> Result<Bindings, ScopeError>
+    ensures { IfOk result (λ bindings. entry_counts bindings.modules ≡ lexeme_counts modules.now) }
+{
     let project = Project::new(alloc, modules, interfaces)?;
     let mut list = Vec::new(alloc);
     for (number, unit) in project.list.iter().enumerate() {
@@ -112,7 +115,9 @@ impl Scene<'_, '_> {
         Ok(list)
     }
 
-    fn bindings(&self) -> Result<Seq<Option<Binder>>, ScopeError> {
+    fn bindings(&self) -> Result<Seq<Option<Binder>>, ScopeError>
+        ensures { IfOk result (λ entries. length entries ≡ length self.now.unit.now.outline.marks.items) }
+    {
         let mut list = Vec::new(self.alloc);
         for (item, mark) in self.unit.outline.marks.iter().enumerate() {
             let entry = self.entry(item, mark)?;

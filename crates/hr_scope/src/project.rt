@@ -1,3 +1,6 @@
+ghost use Rattle.std.specs.Prelude.{◌≡◌, IfOk, OnOk};
+ghost use Rattle.hr_scope.specs.Entries.{lexeme_counts, unit_counts};
+
 use hr_base::{Entity, Seq, Space, Text};
 use hr_names::Names;
 use hr_outline::{Outline, Parts, module_name, outline_of, type_parts};
@@ -24,11 +27,14 @@ pub(crate) struct Project<'a> {
 }
 
 impl<'a> Project<'a> {
+    #[tactic(auto, using(crate::proofs::Counts::marks_counted))]
     pub(crate) fn new(
         alloc: Global,
         modules: &'a [Module],
         interfaces: &Interfaces,
-    ) -> Result<Project<'a>, AllocError> {
+    ) -> Result<Project<'a>, AllocError>
+        ensures { IfOk result (λ project. unit_counts project.list.items ≡ lexeme_counts modules.now) }
+    {
         let mut project = Project {
             list: Vec::new(alloc),
             numbers: IndexMap::new(alloc),
@@ -50,7 +56,10 @@ impl<'a> Project<'a> {
         Ok(project)
     }
 
-    fn take_exports(&mut self, alloc: Global, list: &Seq<Seen>) -> Result<(), AllocError> {
+    #[tactic(auto, using(crate::proofs::Counts::counts_kept))]
+    fn take_exports(&mut self, alloc: Global, list: &Seq<Seen>) -> Result<(), AllocError>
+        ensures { OnOk result (unit_counts self.new.list.items ≡ unit_counts self.old.list.items) }
+    {
         for seen in list.as_slice() {
             if let Some(unit) = self.list.get_mut(seen.module) {
                 unit.exports.add(alloc, None, &seen.entity)?;
@@ -59,7 +68,10 @@ impl<'a> Project<'a> {
         Ok(())
     }
 
-    fn take_scopes(&mut self, alloc: Global, list: &Seq<Seen>) -> Result<(), AllocError> {
+    #[tactic(auto, using(crate::proofs::Counts::counts_kept))]
+    fn take_scopes(&mut self, alloc: Global, list: &Seq<Seen>) -> Result<(), AllocError>
+        ensures { OnOk result (unit_counts self.new.list.items ≡ unit_counts self.old.list.items) }
+    {
         for seen in list.as_slice() {
             if let Some(unit) = self.list.get_mut(seen.module) {
                 let qualifier = seen.name.qualifier.as_ref();
