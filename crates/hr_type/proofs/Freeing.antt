@@ -74,11 +74,14 @@ falls_square a b c d (inr h) = next (a + b) (c + d) h (omega arith)
 pub falls_as : (a b c d x y : ℕ) → Falls a b c d → c ≡ x → d ≡ y → Falls a b x y
 falls_as a b c d x y h p q = subst (λ n. Falls a b n y) p (subst (λ n. Falls a b c n) q h)
 
--- the last argument of a constructor, beside the others
-pub last_falls : (e : Entity) (ts init : List Mono) (last : Mono) → ts ≡ init ++ last ∷ [] → Falls (size last) (held (Con e init)) (size (Con e ts)) 0
-last_falls e ts init last h =
+pub nothing_held : (t : Mono) (n m : ℕ) → t ≡ Var n → held t ≤ m
+nothing_held t n m h = omega (arith, held_var t n h)
+
+-- the last argument of a constructor, beside what is left of the others
+pub last_falls : (e : Entity) (ts init : List Mono) (last others : Mono) → ts ≡ init ++ last ∷ [] → held others ≤ size (Con e init) → Falls (size last) (held others) (size (Con e ts)) 0
+last_falls e ts init last others h k =
     let whole : size (Con e ts) ≡ suc (total (map size init) + (size last + 0)) = size_con _ e ts refl ∙ ap (λ xs. suc (total (map size xs))) h ∙ ap suc (ap total (map-append size init (last ∷ [])) ∙ total-append (map size init) (size last ∷ [])) in
-    let other : held (Con e init) ≡ suc (total (map size init)) = held_con _ e init refl ∙ size_con _ e init refl in
+    let other : size (Con e init) ≡ suc (total (map size init)) = size_con _ e init refl in
     inl (omega arith, omega arith)
 
 -- what hung in the first place of some arguments

@@ -1,4 +1,4 @@
-ghost use Rattle.std.specs.Prelude.{◌≡◌, ◌↔◌, IfOk, IsTrue};
+ghost use Rattle.std.specs.Prelude.{◌≡◌, ◌↔◌, ◌≤◌, IfOk, IsTrue};
 ghost use Rattle.std.specs.Option.{IfSome};
 ghost use Rattle.hr_type.specs.Types.{same_entity};
 ghost use Rattle.hr_type.specs.Sizes.{size, held, Falls};
@@ -86,8 +86,19 @@ impl Mono {
                 arguments.close();
                 None
             }
-            Some(last) => Some((last, Mono::Con(entity, arguments))),
+            Some(last) => Some((last, Mono::with_others(entity, arguments))),
         }
+    }
+
+    /// A constructor with the arguments that are left, or nothing where none is.
+    fn with_others(entity: Entity, arguments: Items<Mono>) -> Mono
+        ensures { held result ≤ size (Con entity arguments) }
+    {
+        if arguments.len() == 0 {
+            arguments.close();
+            return Mono::Var(0);
+        }
+        Mono::Con(entity, arguments)
     }
 
     fn hung_in_arguments(entity: Entity, arguments: Items<Mono>, rest: Mono) -> Option<(Mono, Mono)>
