@@ -1,4 +1,3 @@
 xF = 1
 g a b = a
 k = g 0 xF
-main s = s

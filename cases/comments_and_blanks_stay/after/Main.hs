@@ -2,4 +2,3 @@
 
 total  x =  x   -- f
 h = total  1 
-main s = s

@@ -2,4 +2,3 @@
 
 f  x =  x   -- f
 h = f  1 
-main s = s

@@ -1,4 +1,3 @@
 total x = x
 g f = f
 h = total 1
-main s = s

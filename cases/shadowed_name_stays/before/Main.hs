@@ -1,4 +1,3 @@
 f x = x
 g f = f
 h = f 1
-main s = s

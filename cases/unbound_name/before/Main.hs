@@ -1,2 +1,1 @@
 f = g
-main s = s

@@ -1,4 +1,3 @@
 f a = 1
 k = g (f 2) f
 g a b = a b
-main s = s

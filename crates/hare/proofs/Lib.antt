@@ -1,1 +1,7 @@
-pub mod Ends
+mod Causes
+mod Due
+mod Ends
+mod Lines
+mod OneTarget
+mod OneTree
+mod SomeDue

@@ -1,4 +1,5 @@
 pub mod Codes
+pub mod Due
 pub mod Ends
 pub mod Outsides
 pub mod Report

@@ -1,4 +1,0 @@
-module Shapes (surface) where
-
-surface w h = scaled where
-  scaled = w * h

@@ -1,4 +1,0 @@
-module Shapes (area) where
-
-area w h = scaled where
-  scaled = w * h

@@ -1,4 +1,0 @@
-module Main where
-import qualified A as Q
-import B
-main s = show (Q.inc (h (inc 3)))

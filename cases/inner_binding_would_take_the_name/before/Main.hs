@@ -1,2 +1,0 @@
-f x = \y -> x
-main s = show (f 1 2)

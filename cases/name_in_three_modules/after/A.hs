@@ -1,3 +1,0 @@
-module A where
-inc x = x + 1
-g x = inc x

@@ -1,3 +1,0 @@
-module B (module A, h) where
-import A hiding (g)
-h y = inc (inc y)

@@ -1,3 +1,0 @@
-import Prelude hiding ((-))
-a +++ b = a
-main s = show (1 +++ 2)

@@ -1,2 +1,0 @@
-f x = x
-main s = s

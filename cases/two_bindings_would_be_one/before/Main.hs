@@ -1,3 +1,0 @@
-f = 1
-g = 2
-main s = show f

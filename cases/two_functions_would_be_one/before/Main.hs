@@ -1,3 +1,0 @@
-f 0 = 1
-g x = 2
-main s = show (f 5)
