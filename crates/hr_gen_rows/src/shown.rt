@@ -1,5 +1,5 @@
 use hr_gen::Generated;
-use hr_rows::spelled;
+use hr_rows::escaped;
 use hr_script::write_script;
 use std::alloc::{AllocError, Global};
 
@@ -24,12 +24,12 @@ pub fn lengths(alloc: Global, made: &Generated) -> Result<String, AllocError> {
 /// The commands as a script.
 pub fn script(alloc: Global, made: &Generated) -> Result<String, AllocError> {
     let bytes = write_script(alloc, made.commands.as_slice())?;
-    spelled(alloc, bytes.as_slice())
+    escaped(alloc, bytes.as_slice())
 }
 
 /// The text of this number.
 pub fn text(alloc: Global, made: &Generated, number: Option<u32>) -> Result<String, AllocError> {
-    spelled(alloc, bytes_of(made, number))
+    escaped(alloc, bytes_of(made, number))
 }
 
 /// The line of this number, from 1, of the text of that one.
@@ -43,7 +43,7 @@ pub fn line(
     for line in bytes_of(made, text).split(|byte| *byte == b'\n') {
         left = left.saturating_sub(1);
         if left == 0 {
-            return spelled(alloc, line);
+            return escaped(alloc, line);
         }
     }
     String::from_str(alloc, "no line")

@@ -8,9 +8,9 @@ use Rattle.hr_rules.specs.declared.block.Placed.{Placed}
 use Rattle.hr_rules.specs.CanFollow.{follows}
 use Rattle.hr_rules.specs.Roles.{role_by, role_of}
 use Rattle.hr_rules.specs.Blocks.{role, left_of, at_margin, goes_on, starts_part}
-use Rattle.hr_rules.specs.BlockLaws.{stops}
+use Rattle.hr_rules.specs.BlockLaws.{nothing_goes_on}
 use Rattle.hr_rules.proofs.Margins.{margins}
-use Rattle.hr_rules.proofs.BlockEnds.{ends-stop}
+use Rattle.hr_rules.proofs.BlockEnds.{nothing-goes-on-behind-ends}
 use Rattle.hr_tree.specs.declared.lists.Piece.{Piece}
 use Rattle.hr_grammar.specs.Words.{IsSemicolon}
 use Rattle.hr_grammar.specs.Nodes.{DeclPlace}
@@ -50,19 +50,19 @@ at_column : (left at goes follow : Bool) → goes ≡ not (left || at) → at �
 at_column true at goes follow g e = ap (λ t. not (t && follow)) g
 at_column false at goes follow g e = ap (λ t. not (t && follow)) (g ∙ ap not e)
 
-semicolon_stops : (n : ℕ) (ending : Ending) (item : Item) (ts us : List Placed) → IsSemicolon item → takes_semicolon n item ts us → ending ≢ Ending.Nothing → stops n ending ts ≡ true
+semicolon_stops : (n : ℕ) (ending : Ending) (item : Item) (ts us : List Placed) → IsSemicolon item → takes_semicolon n item ts us → ending ≢ Ending.Nothing → nothing_goes_on n ending ts ≡ true
 semicolon_stops n ending item [] us is t other = elim t [ ]
 semicolon_stops n ending item (next ∷ ts) us is t other =
     no_follower (goes_on n next) (follows ending (role next)) (ap (λ r. follows ending r) (ap (λ (i : Item). role_of i.lexeme) t.1 ∙ semicolon_role item is) ∙ semicolon_goes ending other)
 
-start_stops : (n : ℕ) (ending : Ending) (ts : List Placed) → starts_part n ending ts ≡ true → ending ≢ Ending.Nothing → stops n ending ts ≡ true
+start_stops : (n : ℕ) (ending : Ending) (ts : List Placed) → starts_part n ending ts ≡ true → ending ≢ Ending.Nothing → nothing_goes_on n ending ts ≡ true
 start_stops n ending [] s other = refl
 start_stops n ending (next ∷ ts) s other =
     at_column (left_of n next) (at_margin n next) (goes_on n next) (follows ending (role next)) (margins n next).goes (starts_at n ending next ts other s)
 
 any_stop : {T : Type 0} (parts : Parts T) (kind : BlockKind) (n : ℕ) (place : DeclPlace) (ending : Ending) (pieces : List (Piece T)) (ts us : List Placed)
-    → pieces_reading parts kind n place ending pieces ts us → ending ≢ Ending.Nothing → stops n ending ts ≡ true
-any_stop parts kind n place ending [] ts us r other = ends-stop n kind ending ts r.0
+    → pieces_reading parts kind n place ending pieces ts us → ending ≢ Ending.Nothing → nothing_goes_on n ending ts ≡ true
+any_stop parts kind n place ending [] ts us r other = nothing-goes-on-behind-ends n kind ending ts r.0
 any_stop parts kind n place ending (Piece.Semicolon item ∷ pieces) ts us r other = semicolon_stops n ending item ts r.0 r.1.0 r.1.1 other
 any_stop parts kind n place ending (Piece.Part part ∷ pieces) ts us r other = start_stops n ending ts r.1.0 other
 

@@ -5,7 +5,7 @@ use Rattle.hr_base.specs.declared.lexeme.Item.{Item}
 use Rattle.hr_rules.specs.declared.block.Placed.{Placed}
 use Rattle.hr_rules.specs.declared.block.BlockKind.{BlockKind}
 use Rattle.hr_rules.specs.Blocks.{mark}
-use Rattle.hr_rules.specs.BlockLaws.{stops}
+use Rattle.hr_rules.specs.BlockLaws.{nothing_goes_on}
 use Rattle.hr_tree.specs.declared.lists.Piece.{Piece}
 use Rattle.hr_tree.specs.declared.types.Ty.{Ty}
 use Rattle.hr_tree.specs.declared.patterns.Pat.{Pat}
@@ -103,9 +103,9 @@ pub record ReadingsShrink : Type 0 where
 -- where the pieces of a block go on or end behind a part, nothing can go on in the part
 pub record PiecesStop : Type 0 where
   pub declarations : (levels n : ℕ) (kind : BlockKind) (place : DeclPlace) (ending : Ending) (pieces : List (Piece Decl)) (ts us : List Placed)
-      → pieces_reading (decl_parts (derivations levels)) kind n place ending pieces ts us → ending ≢ Ending.Nothing → stops n ending ts ≡ true
+      → pieces_reading (decl_parts (derivations levels)) kind n place ending pieces ts us → ending ≢ Ending.Nothing → nothing_goes_on n ending ts ≡ true
   pub alternatives : (levels n : ℕ) (kind : BlockKind) (place : DeclPlace) (ending : Ending) (pieces : List (Piece Alt)) (ts us : List Placed)
-      → pieces_reading (alt_parts (derivations levels)) kind n place ending pieces ts us → ending ≢ Ending.Nothing → stops n ending ts ≡ true
+      → pieces_reading (alt_parts (derivations levels)) kind n place ending pieces ts us → ending ≢ Ending.Nothing → nothing_goes_on n ending ts ≡ true
 
 -- an expression, a declaration and an alternative don't end as an empty part does
 pub record EndingsAreSome (read : Derivations) : Type 0 where

@@ -11,7 +11,7 @@
 
 use hr_base::{Item, Items};
 use hr_lexer::{LexError, are_apart, is_varid, lex};
-use hr_rows::{answer_all, spelled};
+use hr_rows::{answer_all, escaped};
 use std::alloc::{AllocError, Global};
 use std::io;
 
@@ -80,11 +80,11 @@ fn lexemes_of(alloc: Global, items: &Items) -> Result<String, AllocError> {
 fn with_trivia_of(alloc: Global, items: &Items) -> Result<String, AllocError> {
     let mut all = String::new(alloc);
     for item in items.list.as_slice() {
-        let trivia = spelled(alloc, item.trivia.as_slice())?;
+        let trivia = escaped(alloc, item.trivia.as_slice())?;
         let lexeme = lexeme(alloc, item)?;
         all.push_str(format!(in alloc; "[{trivia}] {lexeme}; ")?.as_str())?;
     }
-    let tail = spelled(alloc, items.tail.as_slice())?;
+    let tail = escaped(alloc, items.tail.as_slice())?;
     all.push_str(format!(in alloc; "[{tail}]")?.as_str())?;
     Ok(all)
 }
@@ -95,7 +95,7 @@ fn lexeme(alloc: Global, item: &Item) -> Result<String, AllocError> {
     if len > MOST_BYTES {
         return format!(in alloc; "{class:?} of {len} bytes");
     }
-    let text = spelled(alloc, item.lexeme.text.as_slice())?;
+    let text = escaped(alloc, item.lexeme.text.as_slice())?;
     format!(in alloc; "{class:?} {text}")
 }
 

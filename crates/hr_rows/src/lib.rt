@@ -12,7 +12,7 @@ mod notation;
 mod table;
 
 pub use fields::fields_of;
-pub use notation::{decoded, spelled};
+pub use notation::{decoded, escaped};
 pub use table::answer_all;
 
 #[cfg(test)]

@@ -116,7 +116,7 @@ fn escaped(letter: u8) -> Option<u8> {
 }
 
 /// The bytes in the notation: each printable byte of ASCII as itself, but for the backslash.
-pub fn spelled(alloc: Global, bytes: &[u8]) -> Result<String, AllocError> {
+pub fn escaped(alloc: Global, bytes: &[u8]) -> Result<String, AllocError> {
     let mut text = String::new(alloc);
     for byte in bytes {
         match byte {

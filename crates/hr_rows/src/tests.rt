@@ -1,4 +1,4 @@
-use crate::{fields_of, spelled};
+use crate::{escaped, fields_of};
 use std::test::Fail;
 
 #[test]
@@ -27,8 +27,8 @@ fn fields_are_decoded(rt: HostRuntime) -> Result<(), Fail> {
 }
 
 #[test]
-fn bytes_are_spelled(rt: HostRuntime) -> Result<(), Fail> {
-    let text = spelled(rt.alloc(), b"a b\\~\n\r\t\x0B\x0C\x00\x7F\xC3")?;
+fn bytes_are_escaped(rt: HostRuntime) -> Result<(), Fail> {
+    let text = escaped(rt.alloc(), b"a b\\~\n\r\t\x0B\x0C\x00\x7F\xC3")?;
     assert_eq!(rt; text.as_str(), r"a b\\~\n\r\t\v\f\x00\x7F\xC3");
     Ok(())
 }

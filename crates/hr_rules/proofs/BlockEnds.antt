@@ -6,7 +6,7 @@ use Rattle.hr_rules.specs.declared.block.BlockKind.{BlockKind}
 use Rattle.hr_rules.specs.declared.block.Placed.{Placed}
 use Rattle.hr_rules.specs.CanFollow.{begins_part, begins_some_part, can_follow, follows, is_semicolon}
 use Rattle.hr_rules.specs.Blocks.{role, left_of, at_margin, goes_on, ends_block}
-use Rattle.hr_rules.specs.BlockLaws.{EndsStop, PartsDoNotEnd, SemicolonsDoNotEnd}
+use Rattle.hr_rules.specs.BlockLaws.{NothingGoesOnBehindEnds, PartsDoNotEnd, SemicolonsDoNotEnd}
 use Rattle.hr_rules.proofs.Margins.{margins}
 
 -- a lexeme that is neither left of the column nor at it, and can't follow
@@ -17,10 +17,10 @@ stuck false false goes true follow begins g e = absurd (true≢false (sym e))
 stuck false false goes false true begins g e = absurd (true≢false (sym e))
 stuck false false goes false false begins g e = ap (λ t. not (t && false)) g
 
-pub ends-stop : EndsStop
+pub nothing-goes-on-behind-ends : NothingGoesOnBehindEnds
 unfolding can_follow
-ends-stop n kind ending [] e = refl
-ends-stop n kind ending (next ∷ rest) e =
+nothing-goes-on-behind-ends n kind ending [] e = refl
+nothing-goes-on-behind-ends n kind ending (next ∷ rest) e =
     stuck (left_of n next) (at_margin n next) (goes_on n next) (is_semicolon (role next)) (follows ending (role next)) (begins_part kind (role next)) (margins n next).goes e
 
 -- a lexeme that begins a part follows an empty part

@@ -34,13 +34,13 @@ abbrev pub MarginsDivide : Type 0
 MarginsDivide = (n : ℕ) (next : Placed) → Divides n next
 
 -- nothing that goes on in a block at column n, `;` apart, can follow a part of it that ends so
-abbrev pub stops : ℕ → Ending → List Placed → Bool
-stops n ending [] = true
-stops n ending (next ∷ rest) = not (goes_on n next && follows ending (role next))
+abbrev pub nothing_goes_on : ℕ → Ending → List Placed → Bool
+nothing_goes_on n ending [] = true
+nothing_goes_on n ending (next ∷ rest) = not (goes_on n next && follows ending (role next))
 
 -- where a block ends, its last part can't go on
-abbrev pub EndsStop : Type 0
-EndsStop = (n : ℕ) (kind : BlockKind) (ending : Ending) (rest : List Placed) → ends_block n kind ending rest ≡ true → stops n ending rest ≡ true
+abbrev pub NothingGoesOnBehindEnds : Type 0
+NothingGoesOnBehindEnds = (n : ℕ) (kind : BlockKind) (ending : Ending) (rest : List Placed) → ends_block n kind ending rest ≡ true → nothing_goes_on n ending rest ≡ true
 
 -- a block doesn't end where a part may start and the next lexeme can begin one
 abbrev pub PartsDoNotEnd : Type 0

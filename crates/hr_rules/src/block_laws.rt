@@ -1,4 +1,4 @@
-ghost use Rattle.hr_rules.specs.BlockLaws.{ColumnsFromOne, EndsStop, ItemsArePlaced, MarginsDivide, PartsDoNotEnd, SemicolonsDoNotEnd};
+ghost use Rattle.hr_rules.specs.BlockLaws.{ColumnsFromOne, NothingGoesOnBehindEnds, ItemsArePlaced, MarginsDivide, PartsDoNotEnd, SemicolonsDoNotEnd};
 
 /// The items of a text with their places are its items, at their positions: a law about the
 /// definitions, which no call needs to run.
@@ -17,8 +17,8 @@ pub fn margins_divide()
 {}
 
 /// Where a block ends, its last part can't go on: the table leaves no choice.
-pub fn ends_stop()
-    ensures { EndsStop }
+pub fn nothing_goes_on_behind_ends()
+    ensures { NothingGoesOnBehindEnds }
 {}
 
 /// A block doesn't end where a part of it starts.

@@ -14,8 +14,8 @@ mod words;
 
 pub use block::{BlockKind, OpenBlock, Opened, Placed};
 pub use block_laws::{
-    columns_from_one, ends_stop, items_are_placed, margins_divide, parts_do_not_end,
-    semicolons_do_not_end,
+    columns_from_one, items_are_placed, margins_divide, nothing_goes_on_behind_ends,
+    parts_do_not_end, semicolons_do_not_end,
 };
 pub use character::{
     Kind, continues_name, is_blank_char, is_in_name, is_newline, is_symbol, kind_of,

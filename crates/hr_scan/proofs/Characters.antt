@@ -16,7 +16,7 @@ use Rattle.std.proofs.lemmas.Str.{chars-encodes, IsUtf8-encode, is_utf8-from_IsU
 use lib.Utf8.{low_scalar}
 use Rattle.hr_scan.specs.declared.character.Character.{Character}
 use Rattle.hr_scan.proofs.Spelling.{Spelling, alone, led, spelling, lead, continues_at}
-use Rattle.hr_scan.specs.Characters.{announced_len, spelled, char_at, Begins}
+use Rattle.hr_scan.specs.Characters.{announced_len, wide_char_at, char_at, Begins}
 
 -- the character that c stands for
 abbrev pub character : ℕ → Character
@@ -25,35 +25,35 @@ character c = record { code = c; len = length (encode_utf8 c) }
 chars-encode : (c : ℕ) → IsScalar c → chars (encode_utf8 c) ≡ c ∷ []
 chars-encode c s = ap chars (sym (append-nil (encode_utf8 c))) ∙ chars-encodes (c ∷ []) (rw s refl)
 
-spelled-encode : (n c : ℕ) (bytes : List ℕ) → IsScalar c → take n bytes ≡ encode_utf8 c → spelled n bytes ≡ Some (character c)
-unfolding spelled
-spelled-encode n c bytes s e = rw (e, is_utf8-from_IsUtf8 (encode_utf8 c) (IsUtf8-encode c s), chars-encode c s)
+wide_char_at-encode : (n c : ℕ) (bytes : List ℕ) → IsScalar c → take n bytes ≡ encode_utf8 c → wide_char_at n bytes ≡ Some (character c)
+unfolding wide_char_at
+wide_char_at-encode n c bytes s e = rw (e, is_utf8-from_IsUtf8 (encode_utf8 c) (IsUtf8-encode c s), chars-encode c s)
 
-wide : (n first : ℕ) (rest : List ℕ) → 128 ≤ first → announced_len first ≡ n → char_at (first ∷ rest) ≡ spelled n (first ∷ rest)
+wide : (n first : ℕ) (rest : List ℕ) → 128 ≤ first → announced_len first ≡ n → char_at (first ∷ rest) ≡ wide_char_at n (first ∷ rest)
 wide n first rest h e =
-    ap (λ b. cond b (Some (record { code = first; len = 1 })) (spelled (announced_len first) (first ∷ rest))) (le-ltb first 128 h)
-    ∙ ap (λ k. spelled k (first ∷ rest)) e
+    ap (λ b. cond b (Some (record { code = first; len = 1 })) (wide_char_at (announced_len first) (first ∷ rest))) (le-ltb first 128 h)
+    ∙ ap (λ k. wide_char_at k (first ∷ rest)) e
 
-pub not_spelled : (n : ℕ) (bytes : List ℕ) → ¬ (IsUtf8 (take n bytes)) → spelled n bytes ≡ None
-unfolding spelled
-not_spelled n bytes h = by (is_utf8 (take n bytes)) refl
+pub not_wide_char : (n : ℕ) (bytes : List ℕ) → ¬ (IsUtf8 (take n bytes)) → wide_char_at n bytes ≡ None
+unfolding wide_char_at
+not_wide_char n bytes h = by (is_utf8 (take n bytes)) refl
   where
-    by : (t : Bool) → is_utf8 (take n bytes) ≡ t → spelled n bytes ≡ None
+    by : (t : Bool) → is_utf8 (take n bytes) ≡ t → wide_char_at n bytes ≡ None
     by true e = absurd (h (IsUtf8-from_is_utf8 _ e))
     by false e = rw e
 
-pub spelled_nothing : (n : ℕ) (bytes : List ℕ) → length (take n bytes) ≡ 0 → spelled n bytes ≡ None
-unfolding spelled chars is_utf8
-spelled_nothing n bytes h = rw (nil_from_length (take n bytes) h)
+pub wide_char_nothing : (n : ℕ) (bytes : List ℕ) → length (take n bytes) ≡ 0 → wide_char_at n bytes ≡ None
+unfolding wide_char_at chars is_utf8
+wide_char_nothing n bytes h = rw (nil_from_length (take n bytes) h)
 
-pub spelled_first : (n c : ℕ) (bytes rest : List ℕ) → IsUtf8 (take n bytes) → take n bytes ≡ encode_utf8 c ++ rest
-    → spelled n bytes ≡ Some (record { code = c; len = length (take n bytes) })
-unfolding spelled
-spelled_first n c bytes rest u e = rw (is_utf8-from_IsUtf8 (take n bytes) u, chars_past_char (take n bytes) rest c u e)
+pub wide_char_first : (n c : ℕ) (bytes rest : List ℕ) → IsUtf8 (take n bytes) → take n bytes ≡ encode_utf8 c ++ rest
+    → wide_char_at n bytes ≡ Some (record { code = c; len = length (take n bytes) })
+unfolding wide_char_at
+wide_char_first n c bytes rest u e = rw (is_utf8-from_IsUtf8 (take n bytes) u, chars_past_char (take n bytes) rest c u e)
 
 -- an ASCII byte is itself
 pub char_at-ascii : (first : ℕ) (rest : List ℕ) → first < 128 → char_at (first ∷ rest) ≡ Some (record { code = first; len = 1 })
-char_at-ascii first rest h = ap (λ b. cond b (Some (record { code = first; len = 1 })) (spelled (announced_len first) (first ∷ rest))) (lt-ltb first 128 h)
+char_at-ascii first rest h = ap (λ b. cond b (Some (record { code = first; len = 1 })) (wide_char_at (announced_len first) (first ∷ rest))) (lt-ltb first 128 h)
 
 -- the bytes of a character, before any others, give it
 pub char_at-encode : (c : ℕ) (rest : List ℕ) → IsScalar c → char_at (encode_utf8 c ++ rest) ≡ Some (character c)
@@ -66,7 +66,7 @@ char_at-encode c rest s = by (spelling c)
         let long : announced_len first ≡ length (first ∷ others) = omega (arith, n) in
         ap (λ l. char_at (l ++ rest)) e
         ∙ wide (length (first ∷ others)) first (others ++ rest) (omega arith) long
-        ∙ spelled-encode (length (first ∷ others)) c (first ∷ others ++ rest) s (take_at (first ∷ others) rest (length (first ∷ others)) refl ∙ sym e)
+        ∙ wide_char_at-encode (length (first ∷ others)) c (first ∷ others ++ rest) s (take_at (first ∷ others) rest (length (first ∷ others)) refl ∙ sym e)
 
 -- a character that begins the bytes is the one that is found
 pub char_at-complete : (c : Character) (bytes rest : List ℕ) → Begins c bytes rest → char_at bytes ≡ Some c
@@ -82,10 +82,10 @@ one_character first c rest others e =
     cut_first : (n first : ℕ) (rest : List ℕ) → take (n + 1) (first ∷ rest) ≡ first ∷ take n rest
     cut_first n first rest = rw add-one
 
-spelled-sound : (n : ℕ) (bytes : List ℕ) (c : Character) → ((c : ℕ) (others : List ℕ) → take n bytes ≡ encode_utf8 c ++ others → others ≡ [])
-    → spelled n bytes ≡ Some c → Begins c bytes (drop n bytes)
-unfolding spelled
-spelled-sound n bytes c single e = by (is_utf8 (take n bytes)) refl
+wide_char_at-sound : (n : ℕ) (bytes : List ℕ) (c : Character) → ((c : ℕ) (others : List ℕ) → take n bytes ≡ encode_utf8 c ++ others → others ≡ [])
+    → wide_char_at n bytes ≡ Some c → Begins c bytes (drop n bytes)
+unfolding wide_char_at
+wide_char_at-sound n bytes c single e = by (is_utf8 (take n bytes)) refl
   where
     found : (cs : List ℕ) → all_scalars cs ≡ true → encode_utf8_all cs ≡ take n bytes → chars (take n bytes) ≡ cs
         → option_map {U = Character} (λ c. record { code = c; len = length (take n bytes) }) (slice_get cs 0) ≡ Some c → Begins c bytes (drop n bytes)
@@ -117,7 +117,7 @@ char_at-sound (first ∷ rest) c e = by (cases_lt first 128)
 
     wide_one : 128 ≤ first → Begins c (first ∷ rest) (drop c.len (first ∷ rest))
     wide_one h =
-        let begins = spelled-sound (announced_len first) (first ∷ rest) c (λ d others. one_character first d rest others) (sym (wide (announced_len first) first rest h refl) ∙ e) in
+        let begins = wide_char_at-sound (announced_len first) (first ∷ rest) c (λ d others. one_character first d rest others) (sym (wide (announced_len first) first rest h refl) ∙ e) in
         let announced : announced_len first ≡ c.len = ap (λ l. announced_len (slice_index l 0)) begins.bytes_are ∙ lead c.code _ ∙ sym begins.len in
         subst (λ n. Begins c (first ∷ rest) (drop n (first ∷ rest))) announced begins
 

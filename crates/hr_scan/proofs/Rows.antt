@@ -2,7 +2,7 @@
 use Rattle.std.proofs.Common.{◌≡◌, [], ◌∷◌, None, refl}
 use Rattle.std.specs.Char.{encode_utf8}
 use Rattle.std.specs.Str.{chars, is_utf8}
-use Rattle.hr_scan.specs.Characters.{char_at, spelled}
+use Rattle.hr_scan.specs.Characters.{char_at, wide_char_at}
 use Rattle.hr_scan.specs.Columns.{columns_of}
 use Rattle.hr_scan.specs.Lines.{starts_of_lines}
 use Rattle.hr_scan.specs.Positions.{pos_at}
@@ -21,21 +21,21 @@ after_tab = refl
 
 -- U+00E9, a tab, a byte order mark, `x`
 wide_columns : columns_of (0xC3 ∷ 0xA9 ∷ 9 ∷ 0xEF ∷ 0xBB ∷ 0xBF ∷ 120 ∷ []) ≡ 1 ∷ 1 ∷ 2 ∷ 9 ∷ 9 ∷ 9 ∷ 9 ∷ []
-unfolding spelled chars is_utf8 encode_utf8
+unfolding wide_char_at chars is_utf8 encode_utf8
 wide_columns = refl
 
 -- a character that is cut off, and then `x`
 broken_columns : columns_of (0xE2 ∷ 0x82 ∷ 120 ∷ []) ≡ 1 ∷ 2 ∷ 3 ∷ []
-unfolding spelled chars is_utf8 encode_utf8
+unfolding wide_char_at chars is_utf8 encode_utf8
 broken_columns = refl
 
 -- a surrogate, and an overlong form
 no_surrogate : char_at (0xED ∷ 0xA0 ∷ 0x80 ∷ []) ≡ None
-unfolding spelled chars is_utf8 encode_utf8
+unfolding wide_char_at chars is_utf8 encode_utf8
 no_surrogate = refl
 
 no_overlong_form : char_at (0xC1 ∷ 0xA1 ∷ []) ≡ None
-unfolding spelled chars is_utf8 encode_utf8
+unfolding wide_char_at chars is_utf8 encode_utf8
 no_overlong_form = refl
 
 -- `a`, a return and a linefeed, a tab, `b`: the linefeed, the tab, `b`, and behind the text

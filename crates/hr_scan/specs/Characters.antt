@@ -10,15 +10,15 @@ abbrev pub announced_len : ℕ → ℕ
 announced_len first = continuation_len first + 1
 
 -- the character that the first n bytes spell
-unfoldable pub spelled : ℕ → List ℕ → Option Character
-spelled n bytes =
+unfoldable pub wide_char_at : ℕ → List ℕ → Option Character
+wide_char_at n bytes =
     let text = take n bytes in
     if is_utf8 text then option_map (λ c. record { code = c; len = length text }) (slice_get (chars text) 0) else None
 
 -- the character at the front of the bytes, if one begins there
 abbrev pub char_at : List ℕ → Option Character
 char_at [] = None
-char_at (first ∷ rest) = if nat_lt first 128 then Some (record { code = first; len = 1 }) else spelled (announced_len first) (first ∷ rest)
+char_at (first ∷ rest) = if nat_lt first 128 then Some (record { code = first; len = 1 }) else wide_char_at (announced_len first) (first ∷ rest)
 
 -- what counts as one character of a line is a cell: a character, or a byte that begins none
 abbrev pub cell_len : Option Character → ℕ

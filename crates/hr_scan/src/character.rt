@@ -1,6 +1,6 @@
 //! The one decoder: the character that begins at a place of a text.
 ghost use Rattle.std.specs.Prelude.{◌≡◌, ◌+◌, drop, IfSome, IfNone};
-ghost use Rattle.hr_scan.specs.Characters.{announced_len, cell_len, char_at, spelled, Begins};
+ghost use Rattle.hr_scan.specs.Characters.{announced_len, cell_len, char_at, wide_char_at, Begins};
 ghost use Rattle.std.specs.Str.{StartsWithNoChar};
 
 use std::str;
@@ -45,7 +45,7 @@ fn first_character(bytes: &[u8]) -> Option<Character>
 
 /// The character that the first `len` bytes spell.
 fn wide_character(len: usize, bytes: &[u8]) -> Option<Character>
-    ensures { result ≡ spelled len bytes.now }
+    ensures { result ≡ wide_char_at len bytes.now }
 {
     let text = &bytes[..len.min(bytes.len())];
     let code = str::from_utf8(text).ok()?.chars().next()?;

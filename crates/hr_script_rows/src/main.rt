@@ -9,7 +9,7 @@
 
 mod shown;
 
-use hr_rows::{answer_all, spelled};
+use hr_rows::{answer_all, escaped};
 use hr_script::{parse_script, write_script};
 use std::alloc::{AllocError, Global};
 use std::io;
@@ -36,7 +36,7 @@ fn written(alloc: Global, bytes: &[u8]) -> Result<String, AllocError> {
     match parse_script(alloc, bytes) {
         Ok(commands) => {
             let bytes = write_script(alloc, commands.as_slice())?;
-            spelled(alloc, bytes.as_slice())
+            escaped(alloc, bytes.as_slice())
         }
         Err(error) => shown::refusal(alloc, error),
     }

@@ -1,6 +1,6 @@
 //! Commands and refusals as they are shown.
 use hr_base::{Pos, Text};
-use hr_rows::spelled;
+use hr_rows::escaped;
 use hr_script::{Command, ScriptError};
 use std::alloc::{AllocError, Global};
 
@@ -34,16 +34,16 @@ fn command(alloc: Global, command: &Command) -> Result<String, AllocError> {
             at(alloc, "generalise", module, *pos, name.as_slice())
         }
         Command::Move { from, name, to } => {
-            let name = spelled(alloc, name.as_slice())?;
+            let name = escaped(alloc, name.as_slice())?;
             let (from, to) = (
-                spelled(alloc, from.as_slice())?,
-                spelled(alloc, to.as_slice())?,
+                escaped(alloc, from.as_slice())?,
+                escaped(alloc, to.as_slice())?,
             );
             format!(in alloc; "move[{from}|{name}|{to}]")
         }
         Command::Abstract { module, name } => {
-            let name = spelled(alloc, name.as_slice())?;
-            let module = spelled(alloc, module.as_slice())?;
+            let name = escaped(alloc, name.as_slice())?;
+            let module = escaped(alloc, module.as_slice())?;
             format!(in alloc; "abstract[{module}|{name}]")
         }
         Command::Undo => String::from_str(alloc, "undo"),
@@ -58,8 +58,8 @@ fn at(
     pos: Pos,
     field: &[u8],
 ) -> Result<String, AllocError> {
-    let module = spelled(alloc, module.as_slice())?;
-    let field = spelled(alloc, field)?;
+    let module = escaped(alloc, module.as_slice())?;
+    let field = escaped(alloc, field)?;
     let Pos { line, col } = pos;
     if field.is_empty() {
         format!(in alloc; "{word}[{module}|{line}|{col}]")

@@ -1,7 +1,6 @@
 use hr_base::{Item, Seq};
 
 /// A variable that stands for itself: a name, or an operator in parentheses.
-#[derive(Drop)]
 pub enum Variable {
     Name(Item),
     Symbol(Item, Item, Item),
@@ -9,7 +8,6 @@ pub enum Variable {
 
 /// A constructor, or a type's constructor: a name, an operator (or `->`) in parentheses, `()`, `[]`,
 /// or commas in parentheses.
-#[derive(Drop)]
 pub enum Constructor {
     Name(Item),
     Symbol(Item, Item, Item),
@@ -19,8 +17,37 @@ pub enum Constructor {
 }
 
 /// An operator that stands between operands: of symbols, or a name in backquotes.
-#[derive(Drop)]
 pub enum Operator {
     Symbol(Item),
     Quoted(Item, Item, Item),
+}
+
+impl Drop for Variable {
+    fn drop(self) {
+        match self {
+            Variable::Name(name) => let_go!(name),
+            Variable::Symbol(left, symbol, right) => let_go!(left, symbol, right),
+        }
+    }
+}
+
+impl Drop for Constructor {
+    fn drop(self) {
+        match self {
+            Constructor::Name(name) => let_go!(name),
+            Constructor::Symbol(left, symbol, right) => let_go!(left, symbol, right),
+            Constructor::Unit(left, right) => let_go!(left, right),
+            Constructor::EmptyList(left, right) => let_go!(left, right),
+            Constructor::Tuple(left, commas, right) => let_go!(left, commas, right),
+        }
+    }
+}
+
+impl Drop for Operator {
+    fn drop(self) {
+        match self {
+            Operator::Symbol(symbol) => let_go!(symbol),
+            Operator::Quoted(left, name, right) => let_go!(left, name, right),
+        }
+    }
 }

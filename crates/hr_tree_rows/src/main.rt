@@ -10,7 +10,7 @@
 
 use hr_base::{Items, Pos};
 use hr_lexer::lex;
-use hr_rows::{answer_all, spelled};
+use hr_rows::{answer_all, escaped};
 use hr_rules::join;
 use hr_tree::{Block, Header, Layout, Module, at, items};
 use sqlite_items::Items as Children;
@@ -54,7 +54,7 @@ fn place(spelled: &str) -> Option<Pos> {
 /// The text that the tree yields, and the numbers of the lexemes at the positions.
 fn shown(alloc: Global, tree: &Module, places: &str) -> Result<String, AllocError> {
     let again = join(alloc, &items(alloc, tree)?)?;
-    let mut said = spelled(alloc, again.as_slice())?;
+    let mut said = escaped(alloc, again.as_slice())?;
     for word in places.split(' ') {
         match place(word).and_then(|pos| at(tree, pos)) {
             Some(number) => write!(said, " {number}")?,
