@@ -1,7 +1,1 @@
-mod Causes
-mod Due
-mod Ends
-mod Lines
-mod OneTarget
-mod OneTree
-mod SomeDue
+pub mod Ends
