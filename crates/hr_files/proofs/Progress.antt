@@ -15,6 +15,7 @@ pub record Progress (names : List (List ℕ)) (before now : Store) (file : ℕ) 
   pub counted : sum ≡ total texts
   pub together : total texts ≤ project_limit
   pub count : length texts ≡ file
+  pub within : file ≤ length names
 
 -- so many of the changes were made, and these are left
 pub record Replacing (names : List (List ℕ)) (changes : List Change) (before now : Store) (done : ℕ) (left : List Change) : Type 0 where

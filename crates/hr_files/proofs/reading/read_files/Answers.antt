@@ -2,7 +2,7 @@ use Rattle.std.proofs.Common.{◌≡◌, ◌≤◌, ◌<◌, ◌+◌, [], length
 use Rattle.std.proofs.lemmas.List.{length-map}
 use Rattle.std.specs.String.{string_bytes}
 use Rattle.hr_files.specs.Read.{project_limit}
-use Rattle.hr_files.proofs.ReadMore.{named, only_more, read_all, read_more, read_over}
+use Rattle.hr_files.proofs.ReadMore.{count_all, named, only_more, read_all, read_more, read_over}
 use Rattle.hr_files.proofs.reading.read_files.Goals as goal
 
 pub returns-in_err-keep-clause-only : goal.returns-in_err-keep-clause-only
@@ -30,3 +30,14 @@ loop-file-preserved g c =
 
 pub returns-clause-ready : goal.returns-clause-ready
 returns-clause-ready g c = (read_all _ _ _ _ _ _ c.loop-file.invariant (subst (λ n. n ≤ c.loop-file.file) (sym (length-map c.args.names.now string_bytes)) c.loop-file-test.false)).0
+
+pub returns-clause-texts : goal.returns-clause-texts
+returns-clause-texts g c =
+    let end = subst (λ n. n ≤ c.loop-file.file) (sym (length-map c.args.names.now string_bytes)) c.loop-file-test.false in
+    let known = c.loop-file.invariant in
+    record {
+      count = count_all _ _ _ _ _ _ known end;
+      told = (read_all _ _ _ _ _ _ known end).1;
+      each = known.each;
+      together = known.together;
+    }
