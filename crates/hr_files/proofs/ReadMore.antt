@@ -50,10 +50,13 @@ suc_is n = omega arith
 within_more : (n m : ℕ) → n < m → n + 1 ≤ m
 within_more n m less = omega (arith, less)
 
+pub calls_more : (before now after file : ℕ) → now ≤ before + file → after ≤ now + 1 → after ≤ before + (file + 1)
+calls_more before now after file known calls = omega (arith, known, calls)
+
 pub read_more : (names : List (List ℕ)) (before now after : Store) (file : ℕ) (texts : List (List ℕ)) (counted : ℕ) (name text : List ℕ)
     → Progress names before now file texts counted → file < length names → name ≡ get_or names file [] → OnlyReads now after → HasBytes now.told name text
-    → length text ≤ module_limit → IsReady after.ready name → counted + length text ≤ project_limit → Progress names before after (file + 1) (texts ++ text ∷ []) (counted + length text)
-read_more names before now after file texts counted name text known within is only reads short ready few =
+    → length text ≤ module_limit → IsReady after.ready name → counted + length text ≤ project_limit → after.calls ≤ now.calls + 1 → Progress names before after (file + 1) (texts ++ text ∷ []) (counted + length text)
+read_more names before now after file texts counted name text known within is only reads short ready few calls =
     let front : take (file + 1) names ≡ take file names ++ name ∷ [] = subst (λ n. take n names ≡ take file names ++ get_or names file [] ∷ []) (suc_is file) (take-suc names file [] within) ∙ ap (λ n. take file names ++ n ∷ []) (sym is) in
     let sums : counted + length text ≡ total (texts ++ text ∷ []) = ap (λ n. n + length text) known.counted ∙ sym (total_more texts text) in
     let told : HasBytes before.told name text = subst (λ told. HasBytes told name text) known.only.told reads in
@@ -67,6 +70,7 @@ read_more names before now after file texts counted name text known within is on
       together = subst (λ n. n ≤ project_limit) sums few;
       count = length-append texts (text ∷ []) ∙ ap (λ n. n + 1) known.count;
       within = within_more file (length names) within;
+      calls = calls_more before.calls now.calls after.calls file known.calls calls;
     }
 
 -- the texts that were read are too long together

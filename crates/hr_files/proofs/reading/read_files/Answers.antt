@@ -26,7 +26,7 @@ loop-file-preserved g c =
     c.as_str.ensures.value ∙ named string_bytes c.args.names.now c.loop-file.file c.index-names-file.result c.loop-file-test.true c.index-names-file.is in
     let few : c.loop-file.total + length c.in_ok-text.text ≤ project_limit = subst (λ n. c.loop-file.total + n ≤ project_limit) c.len-total.ensures c.if-total-gt-PROJECT_LIMIT.false in
     rw (c.len-total.ensures, c.in_ok-keep.ensures.kept)
-    (read_more _ _ _ _ _ _ _ _ _ c.loop-file.invariant within is c.in_ok-text.ensures.only c.in_ok-text.ensures.text c.in_ok-text.ensures.within c.in_ok-text.ensures.ready few)
+    (read_more _ _ _ _ _ _ _ _ _ c.loop-file.invariant within is c.in_ok-text.ensures.only c.in_ok-text.ensures.text c.in_ok-text.ensures.within c.in_ok-text.ensures.ready few c.in_ok-text.ensures.counted)
 
 pub returns-clause-ready : goal.returns-clause-ready
 returns-clause-ready g c = (read_all _ _ _ _ _ _ c.loop-file.invariant (subst (λ n. n ≤ c.loop-file.file) (sym (length-map c.args.names.now string_bytes)) c.loop-file-test.false)).0
