@@ -1,1 +1,6 @@
 pub mod Ends
+pub mod OneTarget
+pub mod OneTree
+pub mod PlainSteps
+pub mod Ready
+pub mod Reports

@@ -69,23 +69,23 @@ EndsWith words before after Done text =
     × IsReplaced renaming.files (changes olds news) before after × (text ≡ report.done (changed renaming olds news))
 EndsWith words before after StepRefused text =
     (renaming : Renaming) × (olds : List (List ℕ)) × (why : Why) × Reads words before renaming olds × IsNoPlainStep renaming olds
-    × IsKept before after × (Some text ≡ report.refused why)
+    × IsKept (length renaming.files) before after × (Some text ≡ report.refused why)
 EndsWith words before after BadWords text =
     (renaming_of words ≡ None) × (after ≡ before) × (text ≡ report.bad_words)
 EndsWith words before after BadScript text = ⊥
 EndsWith words before after NotAccepted text =
     (renaming : Renaming) × (olds : List (List ℕ)) × (error : LoadError) × Reads words before renaming olds
-    × IsKept before after × (Some text ≡ report.not_accepted renaming.files error)
+    × IsKept (length renaming.files) before after × (Some text ≡ report.not_accepted renaming.files error)
 EndsWith words before after ReadFault text =
     (renaming : Renaming) × (file : ℕ) × AreFew words renaming × IsUnread renaming.files before after (Unread.Missing file)
-    × IsKept before after × (text ≡ report.read_fault (slice_index_or renaming.files file []))
+    × IsKept (length renaming.files) before after × (text ≡ report.read_fault (slice_index_or renaming.files file []))
 EndsWith words before after WriteFault text =
     (renaming : Renaming) × (olds news : List (List ℕ)) × (refused : ℕ) × Reads words before renaming olds × IsStep renaming olds news
     × IsCutOff renaming.files (changes olds news) refused before after
     × (text ≡ report.write_fault (slice_index_or (changed renaming olds news) refused []))
 EndsWith words before after ReportFault text = ⊥
 EndsWith words before after Memory text = ⊥
-EndsWith words before after OverLimit text = (renaming : Renaming) × AreGood words renaming × IsKept before after × IsOver renaming before after text
+EndsWith words before after OverLimit text = (renaming : Renaming) × AreGood words renaming × IsKept (length renaming.files) before after × IsOver renaming before after text
 
 -- a status that is told by its report
 abbrev pub Told : List (List ℕ) → Outside → Outside → Status → Type 0

@@ -11,21 +11,26 @@ pub record Outside : Type 0 where
 abbrev pub outside : Store → Output → Outside
 outside store output = record { store = store; output = output }
 
--- no file changed, and no replace failed
-pub record IsKept (before after : Store) : Type 0 where
+-- a call for each of so many files at most, a read: no file and no count of replaces changed
+pub record IsKept (files : ℕ) (before after : Store) : Type 0 where
   pub told : after.told ≡ before.told
   pub replaces : after.replace_faults ≡ before.replace_faults
+  pub calls : after.calls ≤ before.calls + files
 
--- the files of the changes have their new bytes, and no replace failed
+-- a read for each file and a replace for each change at most: the files of the changes have their new bytes, and no
+-- replace failed
 pub record IsReplaced (names : List (List ℕ)) (changes : List Change) (before after : Store) : Type 0 where
   pub told : after.told ≡ after_changes names before.told changes
   pub replaces : after.replace_faults ≡ before.replace_faults
+  pub calls : after.calls ≤ before.calls + (length names + length changes)
 
--- a replace failed: the files before it have their new bytes, and the others are as they were
+-- a read for each file and a replace for each change at most: a replace failed, the files before it have their new
+-- bytes, and the others are as they were
 pub record IsCutOff (names : List (List ℕ)) (changes : List Change) (refused : ℕ) (before after : Store) : Type 0 where
   pub within : refused < length changes
   pub told : after.told ≡ after_changes names before.told (take refused changes)
   pub replaces : Rose before.replace_faults after.replace_faults
+  pub calls : after.calls ≤ before.calls + (length names + length changes)
 
 -- one piece at most: the sink took the report, and no write failed
 pub record IsWritten (report : List ℕ) (before after : Output) : Type 0 where

@@ -1,5 +1,6 @@
 -- A renaming on the texts of its files.
-use Rattle.std.specs.Prelude.{ℕ, List}
+use Rattle.std.specs.Prelude.{ℕ, ◌≤◌, List, All, length}
+use Rattle.hr_base.specs.Limits.{module_limit}
 use Rattle.hr_shelf.specs.Outside.{Store, Output}
 use Rattle.hr_files.specs.Read.{AreRead, AreReady, IsUnread}
 use Rattle.hr_files.specs.declared.reading.Unread.{Unread}
@@ -8,6 +9,10 @@ use Rattle.hare.specs.declared.status.Status.{Status}
 use Rattle.hare.specs.Ends.{AreFew, AreGood, Ends, IsNoPlainStep, IsStep}
 use Rattle.hare.specs.Outsides.{IsKept, outside}
 use Rattle.hare.specs.Words.{Renaming}
+
+-- no text is too long
+abbrev pub AreShort : List (List ℕ) → Type 0
+AreShort texts = All (λ text. length text ≤ module_limit) texts
 
 -- what became of it in memory
 abbrev pub IsOutcome : Renaming → List (List ℕ) → Step → Type 0
@@ -28,12 +33,12 @@ RunsAny renaming store output next_store next_output status =
 -- the texts are those of its files, which were read since the start
 pub record WereRead (renaming : Renaming) (olds : List (List ℕ)) (start now : Store) : Type 0 where
   pub texts : AreRead renaming.files start olds
-  pub kept : IsKept start now
+  pub kept : IsKept (length renaming.files) start now
 
 -- its files were asked for since the start, and this was the answer
 pub record WereRefused (renaming : Renaming) (unread : Unread) (start now : Store) : Type 0 where
   pub cause : IsUnread renaming.files start now unread
-  pub kept : IsKept start now
+  pub kept : IsKept (length renaming.files) start now
 
 -- a run, whatever shelf its files were asked for of, where this was the answer
 abbrev pub RunsUnread : Renaming → Unread → Output → Output → Status → Type 0

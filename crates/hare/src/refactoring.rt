@@ -1,10 +1,10 @@
-ghost use Rattle.std.specs.Prelude.{◌≡◌, [], map, slice_index_or};
+ghost use Rattle.std.specs.Prelude.{◌≡◌, [], length, map, slice_index_or};
 ghost use Rattle.std.specs.String.{string_bytes};
 ghost use Rattle.hr_files.specs.Read.{AreReady};
 ghost use Rattle.hare.specs.Ends.{Ends, IsOffered, IsStep, status_of};
 ghost use Rattle.hare.specs.Outsides.{outside};
 ghost use Rattle.hare.specs.Shown.{shown};
-ghost use Rattle.hare.specs.Steps.{RunsAny, RunsFor, RunsOn, RunsUnread};
+ghost use Rattle.hare.specs.Steps.{AreShort, RunsAny, RunsFor, RunsOn, RunsUnread};
 
 use crate::report;
 use crate::status::Status;
@@ -115,7 +115,9 @@ fn rename_texts<S: Shelf, K: Sink>(
     shelf: &mut S,
     out: &mut K,
 ) -> Result<Status, AllocError>
-    requires { AreReady (S.store shelf.old).ready (map string_bytes command.files.now) }
+    requires ready { AreReady (S.store shelf.old).ready (map string_bytes command.files.now) }
+    requires short { AreShort texts.now }
+    requires count { length texts.now ≡ length (map string_bytes command.files.now) }
     ensures { RunsOn (shown command.entry) texts.now (S.store shelf.old) (K.output out.old) (S.store shelf.new) (K.output out.new) (status_of result) }
 {
     match take_step(alloc, command, texts)? {
@@ -140,7 +142,8 @@ fn replace<S: Shelf, K: Sink>(
     shelf: &mut S,
     out: &mut K,
 ) -> Result<Status, AllocError>
-    requires { AreReady (S.store shelf.old).ready (map string_bytes command.files.now) }
+    requires ready { AreReady (S.store shelf.old).ready (map string_bytes command.files.now) }
+    requires count { length olds.now ≡ length (map string_bytes command.files.now) }
     ensures { IsStep (shown command.entry) olds.now news.now → RunsOn (shown command.entry) olds.now (S.store shelf.old) (K.output out.old) (S.store shelf.new) (K.output out.new) (status_of result) }
 {
     let changes = changes(alloc, olds, news)?;

@@ -1,8 +1,8 @@
 //! A renaming in memory.
-ghost use Rattle.std.specs.Prelude.{◌≡◌, ◌∷◌, [], ℕ, List, IfOk, MatchOption};
-ghost use Rattle.hare.specs.Ends.{IsNoPlainStep, IsPlainStep};
+ghost use Rattle.std.specs.Prelude.{◌∷◌, [], IfOk, MatchOption};
+ghost use Rattle.hare.specs.Ends.{IsNoPlainStep, IsStep};
 ghost use Rattle.hare.specs.Shown.{shown};
-ghost use Rattle.hare.specs.Steps.{IsOutcome};
+ghost use Rattle.hare.specs.Steps.{AreShort, IsOutcome};
 
 use crate::words::Renaming;
 use hr_base::{Seq, Text};
@@ -23,6 +23,7 @@ pub enum Step {
 /// The renaming of the project that the texts are. Where they are one text of the plain form in which it is accepted,
 /// it is carried out there.
 pub fn take_step(alloc: Global, command: Renaming<'_>, texts: &[Text]) -> Result<Step, AllocError>
+    requires { AreShort texts.now }
     ensures { IfOk result (IsOutcome (shown command.entry) texts.now) }
 {
     let project = match check(alloc, texts) {
@@ -44,7 +45,8 @@ fn plain_step(
     command: Renaming<'_>,
     texts: &[Text],
 ) -> Result<Option<Text>, AllocError>
-    ensures { IfOk result (λ found. MatchOption found (IsNoPlainStep (shown command.entry) texts.now) (λ new. (old : List ℕ) × (texts.now ≡ old ∷ []) × IsPlainStep (shown command.entry) old new)) }
+    requires { AreShort texts.now }
+    ensures { IfOk result (λ found. MatchOption found (IsNoPlainStep (shown command.entry) texts.now) (λ new. IsStep (shown command.entry) texts.now (new ∷ []))) }
 {
     let [text] = texts else {
         return Ok(None);
