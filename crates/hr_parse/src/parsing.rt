@@ -40,10 +40,7 @@ pub fn parse(alloc: Global, items: Items) -> Result<Module, ParseError> {
 /// The header, if the text begins with one, and the body, behind which nothing stands.
 fn read(alloc: Global, cursor: &mut Cursor, notes: &mut Notes) -> Result<Whole, Stop> {
     let header = maybe_header(alloc, cursor, notes)?;
-    let body = declarations(alloc, cursor, notes, 0, true)?;
-    if cursor.peek().is_some() {
-        return Err(Stop::Syntax);
-    }
+    let body = declarations(alloc, cursor, notes, 0)?;
     nest(0, body.height)?;
     Ok(Whole { header, body })
 }

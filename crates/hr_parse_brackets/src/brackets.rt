@@ -385,6 +385,6 @@ fn patterns(
     } = begun;
     let before = refused(twins)?;
     let part = closed_parts(alloc, cursor, notes, below(depth), left, before, part)?;
-    notes.whole(cursor.pos());
+    notes.pattern(cursor.pos());
     Ok(done_pattern(part))
 }
