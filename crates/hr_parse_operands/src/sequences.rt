@@ -1,4 +1,5 @@
 //! Infix sequences, with `::` and a type behind them: the Haskell 98 Report, sections 3, 3.4 and 3.16.
+ghost use Rattle.std.specs.Prelude.{◌≡◌, None};
 
 use hr_base::Item;
 use hr_layout::Cursor;
@@ -58,7 +59,9 @@ fn may_negate(cursor: &Cursor, minus: &Option<Item>) -> bool {
 }
 
 /// An operand alone is no sequence, and stands one node less deep.
-fn first_place(place: Place, minus: &Option<Item>) -> Place {
+fn first_place(place: Place, minus: &Option<Item>) -> Place
+    ensures { minus.now ≡ None → result ≡ place }
+{
     match minus {
         None => place,
         Some(_) => place.deeper(),
