@@ -1,6 +1,6 @@
 -- A renaming that is accepted in a text of the plain form has one text, and neither the text nor the renaming is refused
 -- there.
-use Rattle.std.proofs.Common.{◌≡◌, ◌≤◌, ◌<◌, ℕ, Result, Ok, Err, IfOk, List, [], ◌∷◌, length, Option, Some, true≢false, arith, refl, sym, ap, subst, ◌∙◌, slice_get}
+use Rattle.std.proofs.Common.{Result, Ok, Err, IfOk, ◌≡◌, ◌≤◌, ◌<◌, ℕ, inl, inr, List, [], ◌∷◌, length, Option, Some, true≢false, arith, refl, sym, ap, subst, ◌∙◌, slice_get}
 use Rattle.std.specs.declared.alloc.AllocError.{AllocError}
 use Rattle.hr_base.specs.Limits.{module_limit}
 use Rattle.hr_base.specs.declared.place.Pos.{Pos}
@@ -18,8 +18,10 @@ use Rattle.hr_plain.specs.Form.{IsPlain}
 use Rattle.hr_plain.specs.Refusals.{IsLoadRefusal}
 use Rattle.hr_plain.specs.Renaming.{IsNameAt, IsRenamed, IsWhy, MayRename, Respelled, owner_at}
 use Rattle.hr_plain.specs.Scoping.{occurrences_of}
-use Rattle.hare.specs.Ends.{IsNoPlainStep, IsPlainStep, IsStep}
-use Rattle.hare.specs.Steps.{IsOutcome}
+use Rattle.hr_check.specs.Projects.{texts_of}
+use Rattle.hr_check.specs.declared.project.Project.{Project}
+use Rattle.hare.specs.Ends.{IsWholeStep, IsMadePlainly, IsMeant, IsNoPlainStep, IsPlainStep, IsStep}
+use Rattle.hare.specs.Steps.{IsOutcome, IsWholeOutcome}
 use Rattle.hare.specs.Words.{Renaming}
 use Rattle.hare.specs.declared.steps.Step.{Step}
 use Rattle.hare.proofs.OneTarget.{one_target}
@@ -84,14 +86,20 @@ module _ (renaming : Renaming) (olds : List (List ℕ)) (old : List ℕ) (is : o
   same_tree other tree found here p q = one_tree old found tree (subst (λ o. IsPlain o found) (same_old other here) p) q
 
   module _ (tree : Module) (plain : IsPlain old tree) where
-    -- a text that the form's renaming makes is the one that is meant
-    pub only_step : (made : List ℕ) → IsRenamed tree renaming.module_name renaming.pos renaming.new_name made → IsStep renaming olds (made ∷ [])
-    only_step made renamed other new here step =
+    only_text : (made : List ℕ) → IsRenamed tree renaming.module_name renaming.pos renaming.new_name made → IsMeant renaming olds (made ∷ [])
+    only_text made renamed other new here step =
         let found = same_tree other tree step.tree here step.plain plain in
         let theirs : IsRenamed tree renaming.module_name renaming.pos renaming.new_name new =
         subst (λ t. IsRenamed t renaming.module_name renaming.pos renaming.new_name new) found step.renamed
         in
         ap (λ text. text ∷ []) (one_renamed tree renaming.module_name renaming.pos renaming.new_name made new renamed theirs)
+
+    -- a text that the form's renaming makes is the one that is meant
+    pub only_step : (made : List ℕ) → IsRenamed tree renaming.module_name renaming.pos renaming.new_name made → IsStep renaming olds (made ∷ [])
+    only_step made renamed = record {
+      meant = only_text made renamed;
+      made = inl (old, made, is, refl, record { tree = tree; plain = plain; renamed = renamed });
+    }
 
     -- where it is refused there is none
     pub no_step : (why : Why) → IsWhy tree renaming.module_name renaming.pos renaming.new_name why → ((error : AllocError) → why ≡ Why.Memory error → ⊥)
@@ -113,12 +121,17 @@ module _ (renaming : Renaming) (olds : List (List ℕ)) (old : List ℕ) (is : o
 pub not_one : (renaming : Renaming) (olds : List (List ℕ)) → ((old : List ℕ) → olds ≡ old ∷ [] → ⊥) → IsNoPlainStep renaming olds
 not_one renaming olds other old new here step = other old here
 
--- where there is none, whatever became of the renaming is an outcome
-pub outcome_without : (renaming : Renaming) (olds : List (List ℕ)) → IsNoPlainStep renaming olds → (step : Step) → IsOutcome renaming olds step
-outcome_without renaming olds none (Step.Renamed news) = λ old new here step. absurd (none old new here step)
-outcome_without renaming olds none (Step.NotAccepted error) = tt
-outcome_without renaming olds none (Step.Refused why) = none
+-- where there is none, what became of the renaming in the whole project is its outcome
+pub outcome_without : (renaming : Renaming) (olds : List (List ℕ)) (project : Project) → texts_of project ≡ olds → IsNoPlainStep renaming olds → (step : Step)
+    → IsWholeOutcome project step → IsOutcome renaming olds step
+outcome_without renaming olds project texts none (Step.Renamed news) (step, new, finished) = record {
+  meant = λ old text here there. absurd (none old text here there);
+  made = inr record { project = project; step = step; old = texts; new = new; finished = finished };
+}
+outcome_without renaming olds project texts none (Step.NotAccepted error) whole = tt
+outcome_without renaming olds project texts none (Step.Refused why) whole = none
 
-pub each_ok : {T E : Type 0} (P : T → Type 0) → ((value : T) → P value) → (result : Result T E) → IfOk result P
-each_ok P every (Ok value) = every value
-each_ok P every (Err error) = tt
+-- what an answer says, and what follows of it
+pub ok_so : {T E : Type 0} (P Q : T → Type 0) → ((value : T) → P value → Q value) → (result : Result T E) → IfOk result P → IfOk result Q
+ok_so P Q so (Ok value) is = so value is
+ok_so P Q so (Err error) is = tt

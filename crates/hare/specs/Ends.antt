@@ -6,7 +6,11 @@ use Rattle.hr_files.specs.Read.{AreRead, IsUnread}
 use Rattle.hr_files.specs.Replaced.{changes_from, name_of}
 use Rattle.hr_files.specs.declared.reading.Unread.{Unread}
 use Rattle.hr_files.specs.declared.replacing.Change.{Change}
+use Rattle.hr_check.specs.Projects.{texts_of}
 use Rattle.hr_check.specs.declared.error.LoadError.{LoadError}
+use Rattle.hr_check.specs.declared.project.Project.{Project}
+use Rattle.hr_finish.specs.Compared.{IsFinished}
+use Rattle.hr_finish.specs.declared.finishing.Step.{Step}
 use Rattle.hr_plain_tree.specs.declared.tree.Module.{Module}
 use Rattle.hr_plain.specs.Form.{IsPlain}
 use Rattle.hr_plain.specs.Renaming.{IsRenamed}
@@ -36,8 +40,25 @@ pub record IsPlainStep (renaming : Renaming) (old new : List ℕ) : Type 0 where
   pub renamed : IsRenamed tree renaming.module_name renaming.pos renaming.new_name new
 
 -- where the project is one text of the plain form in which the renaming is accepted, the new text is that one
-abbrev pub IsStep : Renaming → List (List ℕ) → List (List ℕ) → Type 0
-IsStep renaming olds news = (old new : List ℕ) → olds ≡ old ∷ [] → IsPlainStep renaming old new → news ≡ new ∷ []
+abbrev pub IsMeant : Renaming → List (List ℕ) → List (List ℕ) → Type 0
+IsMeant renaming olds news = (old new : List ℕ) → olds ≡ old ∷ [] → IsPlainStep renaming old new → news ≡ new ∷ []
+
+-- the new text is that of the renaming in one text of the plain form
+abbrev pub IsMadePlainly : Renaming → List (List ℕ) → List (List ℕ) → Type 0
+IsMadePlainly renaming olds news = (old new : List ℕ) × (olds ≡ old ∷ []) × (news ≡ new ∷ []) × IsPlainStep renaming old new
+
+-- the new texts are those of a project that was compared with the old ones' project
+pub record IsWholeStep (olds news : List (List ℕ)) : Type 0 where
+  pub project : Project
+  pub step : Step
+  pub old : texts_of project ≡ olds
+  pub new : texts_of step.project ≡ news
+  pub finished : IsFinished project step
+
+-- the renaming is carried out: these are the new texts
+pub record IsStep (renaming : Renaming) (olds news : List (List ℕ)) : Type 0 where
+  pub meant : IsMeant renaming olds news
+  pub made : IsMadePlainly renaming olds news ⊎ IsWholeStep olds news
 
 -- and then it isn't refused
 abbrev pub IsNoPlainStep : Renaming → List (List ℕ) → Type 0

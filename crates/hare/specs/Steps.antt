@@ -1,9 +1,13 @@
 -- A renaming on the texts of its files.
-use Rattle.std.specs.Prelude.{ℕ, ◌≤◌, List, All, length}
+use Rattle.std.specs.Prelude.{◌≡◌, ℕ, ◌≤◌, List, All, length}
 use Rattle.hr_base.specs.Limits.{module_limit}
 use Rattle.hr_shelf.specs.Outside.{Store, Output}
 use Rattle.hr_files.specs.Read.{AreRead, AreReady, IsUnread}
 use Rattle.hr_files.specs.declared.reading.Unread.{Unread}
+use Rattle.hr_check.specs.Projects.{texts_of}
+use Rattle.hr_check.specs.declared.project.Project.{Project}
+use Rattle.hr_finish.specs.Compared.{IsFinished}
+use Rattle.hr_finish.specs.declared.finishing.Step as finish
 use Rattle.hare.specs.declared.steps.Step.{Step}
 use Rattle.hare.specs.declared.status.Status.{Status}
 use Rattle.hare.specs.Ends.{AreFew, AreGood, Ends, IsNoPlainStep, IsStep}
@@ -19,6 +23,12 @@ abbrev pub IsOutcome : Renaming → List (List ℕ) → Step → Type 0
 IsOutcome renaming olds (Step.Renamed news) = IsStep renaming olds news
 IsOutcome renaming olds (Step.NotAccepted error) = Unit {0}
 IsOutcome renaming olds (Step.Refused why) = IsNoPlainStep renaming olds
+
+-- what became of it in the whole project
+abbrev pub IsWholeOutcome : Project → Step → Type 0
+IsWholeOutcome project (Step.Renamed news) = (step : finish.Step) × (texts_of step.project ≡ news) × IsFinished project step
+IsWholeOutcome project (Step.NotAccepted error) = Unit {0}
+IsWholeOutcome project (Step.Refused why) = Unit {0}
 
 -- a run of whatever words are this renaming, which found the one shelf and sink and left the other ones
 abbrev pub RunsFor : Renaming → Store → Output → Store → Output → Status → Type 0

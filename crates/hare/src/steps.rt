@@ -2,7 +2,7 @@
 ghost use Rattle.std.specs.Prelude.{◌∷◌, [], IfOk, MatchOption};
 ghost use Rattle.hare.specs.Ends.{IsNoPlainStep, IsStep};
 ghost use Rattle.hare.specs.Shown.{shown};
-ghost use Rattle.hare.specs.Steps.{AreShort, IsOutcome};
+ghost use Rattle.hare.specs.Steps.{AreShort, IsOutcome, IsWholeOutcome};
 
 use crate::words::Renaming;
 use hr_base::{Seq, Text};
@@ -66,14 +66,18 @@ fn plain_step(
 }
 
 /// The renaming in the whole project.
-fn whole_step(alloc: Global, command: Renaming<'_>, project: &Project) -> Result<Step, AllocError> {
+fn whole_step(alloc: Global, command: Renaming<'_>, project: &Project) -> Result<Step, AllocError>
+    ensures { IfOk result (IsWholeOutcome project.now) }
+{
     match rename(alloc, project, command.module, command.pos, command.new) {
         Ok(step) => Ok(Step::Renamed(copies(alloc, step.project.texts())?)),
         Err(why) => Ok(Step::Refused(why)),
     }
 }
 
-fn copies(alloc: Global, texts: &[Text]) -> Result<Seq<Text>, AllocError> {
+fn copies(alloc: Global, texts: &[Text]) -> Result<Seq<Text>, AllocError>
+    ensures { IfOk result (λ list. list ≡ texts.now) }
+{
     let mut list = Vec::new(alloc);
     for text in texts {
         list.push(text.clone()?)?;
