@@ -1,5 +1,5 @@
 -- One draft more is read, and all.
-use Rattle.std.proofs.Common.{◌≡◌, ◌≤◌, ◌<◌, ◌+◌, ℕ, suc, zero, List, [], ◌∷◌, ◌++◌, length, take, get_or, All, sym, ap, ◌∙◌, refl, subst, arith}
+use Rattle.std.proofs.Common.{Result, Ok, Err, IfOk, MatchResult, ◌≡◌, ◌≤◌, ◌<◌, ◌+◌, ℕ, suc, zero, List, [], ◌∷◌, ◌++◌, length, take, get_or, All, sym, ap, ◌∙◌, refl, subst, arith}
 use Rattle.std.proofs.lemmas.List.Elements.{All-append, All-cons, All-nil}
 use Rattle.std.proofs.Math.Seq.{take-suc}
 
@@ -19,3 +19,8 @@ take_all (suc n) (x ∷ xs) short = ap (λ rest. x ∷ rest) (take_all n xs (ome
 
 pub read_all : {X : Type 0} (P : X → Type 0) (xs : List X) (n : ℕ) → length xs ≤ n → All P (take n xs) → All P xs
 read_all P xs n short every = subst (All P) (take_all n xs short) every
+
+-- what an answer says whose error was given another type
+pub ok_given : {X E : Type 0} (F : Type 0) (r : Result X E) (y : X) (P : X → Type 0) → MatchResult r (λ x. ◌≡◌ {A = Result X F} (Ok y) (Ok x)) (λ e. ⊥) → IfOk r P → P y
+ok_given F (Ok x) y P same holds = let is : y ≡ x = cc in subst P (sym is) holds
+ok_given F (Err e) y P same holds = absurd same
