@@ -1,5 +1,6 @@
 //! Whether the written texts were read as the drafts have them.
-ghost use Rattle.std.specs.Prelude.{◌≡◌, All, IfOk, true};
+ghost use Rattle.std.specs.Prelude.{◌≡◌, All, IfOk, slice_get, true};
+ghost use Rattle.std.specs.Option.{option_copied};
 ghost use Rattle.hr_finish.specs.Compared.{IsDraftRead, IsReadAs};
 
 use hr_blocks::blocks_of;
@@ -18,7 +19,8 @@ pub fn are_read(
     ensures { IfOk result (λ read. read ≡ true → All (IsDraftRead old.now new.now) drafts.now) }
 {
     for draft in drafts {
-        let (Some(before), Some(after)) = (old.get(draft.module), new.get(draft.module)) else {
+        let (Some(before), Some(after)) = (tree_at(old, draft.module), tree_at(new, draft.module))
+        else {
             return Ok(false);
         };
         if !is_read(alloc, before, after, draft)? {
@@ -26,6 +28,13 @@ pub fn are_read(
         }
     }
     Ok(true)
+}
+
+/// The tree of the module of that number.
+fn tree_at(modules: &[Module], number: usize) -> Option<&Module>
+    ensures { option_copied result ≡ slice_get modules.now number }
+{
+    modules.get(number)
 }
 
 fn is_read(alloc: Global, old: &Module, new: &Module, draft: &Draft) -> Result<bool, AllocError>
