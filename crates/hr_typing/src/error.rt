@@ -1,3 +1,6 @@
+ghost use Rattle.std.specs.Prelude.{◌≡◌};
+ghost use Rattle.hr_typing.specs.Numbers as spec;
+
 use hr_infer::TypeError;
 use hr_tydecl::DeclError;
 use std::alloc::AllocError;
@@ -34,7 +37,9 @@ impl From<AllocError> for TypingError {
 
 impl TypingError {
     /// The number by which the refusal is shown; none for want of memory.
-    pub fn number(&self) -> Option<u32> {
+    pub fn number(&self) -> Option<u32>
+        ensures { result ≡ spec.typing_number self.now }
+    {
         match self {
             TypingError::Declared(error) => declared_number(error),
             TypingError::Defined(error) => defined_number(error),
@@ -43,7 +48,9 @@ impl TypingError {
     }
 }
 
-fn declared_number(error: &DeclError) -> Option<u32> {
+fn declared_number(error: &DeclError) -> Option<u32>
+    ensures { result ≡ spec.declared_number error.now }
+{
     match error {
         DeclError::SynonymCycle { .. } => Some(19),
         DeclError::WrongArity { .. } => Some(20),
@@ -52,7 +59,9 @@ fn declared_number(error: &DeclError) -> Option<u32> {
     }
 }
 
-fn defined_number(error: &TypeError) -> Option<u32> {
+fn defined_number(error: &TypeError) -> Option<u32>
+    ensures { result ≡ spec.defined_number error.now }
+{
     match error {
         TypeError::IllTyped { .. } => Some(22),
         TypeError::SignatureTooGeneral { .. } => Some(23),
