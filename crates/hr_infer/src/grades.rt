@@ -70,16 +70,13 @@ impl<'a> Grades<'a> {
         let Some(start) = self.starts.get(&lexeme).copied() else {
             return Ok(None);
         };
-        let (Some(sequence), Some(tree)) =
-            (self.sequences.get(start.number), self.trees.get(start.number))
-        else {
+        let (Some(sequence), Some(tree)) = (
+            self.sequences.get(start.number),
+            self.trees.get(start.number),
+        ) else {
             return Ok(None);
         };
-        let steps = steps_through(
-            alloc,
-            side_of(tree, start.side),
-            sequence.parts.as_slice(),
-        )?;
+        let steps = steps_through(alloc, side_of(tree, start.side), sequence.parts.as_slice())?;
         Ok(Some(steps))
     }
 }

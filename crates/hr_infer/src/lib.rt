@@ -8,6 +8,7 @@ mod extract;
 mod grades;
 mod groups;
 mod machine;
+mod main_type;
 mod modules;
 mod naming;
 mod pushing;

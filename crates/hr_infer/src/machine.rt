@@ -4,7 +4,8 @@ use crate::error::{Halt, lost};
 use crate::pushing::push;
 use hr_base::Binder;
 use hr_instances::{
-    Equations, GROUP_LIMIT, TYPE_LIMIT, Which, copied, fixed_type, next_number, replaced, variables_from,
+    Equations, GROUP_LIMIT, TYPE_LIMIT, Which, copied, fixed_type, next_number, replaced,
+    variables_from,
 };
 use hr_type::{Mono, Scheme, size_of_type};
 use indexmap::{IndexMap, IndexSet};

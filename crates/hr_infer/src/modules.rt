@@ -1,16 +1,24 @@
+ghost use Rattle.std.specs.Prelude.{◌≡◌, IfOk, Some};
+ghost use Rattle.indexmap.specs.IndexMap.{get};
+ghost use Rattle.hr_base.specs.declared.bind.Entity.{Entity};
+ghost use Rattle.hr_type.specs.declared.mono.Scheme.{Scheme};
+ghost use Rattle.hr_type.specs.Types.{IsInstance};
+ghost use Rattle.hr_infer.specs.Main.{main_entity, main_type};
+
 use crate::context::{Context, Sign, Signs};
 use crate::error::TypeError;
 use crate::grades::Grades;
 use crate::groups::{Outcome, type_group};
+use crate::main_type::has_main;
 use crate::resolved::Resolved;
 use crate::typing::Typing;
-use hr_base::{Binder, Entity, Space, Spot, Text};
+use hr_base::{Binder, Entity, Spot};
 use hr_fixity::Graded;
-use hr_instances::{Entities, function};
+use hr_instances::Entities;
 use hr_outline::module_name;
 use hr_tree::Module;
 use hr_tydecl::{Declared, lexeme_text, place_at};
-use hr_type::{Mono, Scheme, instance};
+use hr_type::Scheme;
 use hr_typing_code::{Group, ModuleRules};
 use hr_typing_walk::Signed;
 use indexmap::IndexMap;
@@ -37,16 +45,14 @@ struct Part<'a> {
 }
 
 /// The types of all values and constructors of the modules.
-pub fn infer(
-    alloc: Global,
-    resolved: Resolved,
-    declared: &Declared,
-) -> Result<Typing, TypeError> {
+pub fn infer(alloc: Global, resolved: Resolved, declared: &Declared) -> Result<Typing, TypeError>
+    ensures main { IfOk result (λ typing. (scheme : Scheme) × (get Entity.eq typing.schemes main_entity ≡ Some scheme) × IsInstance scheme main_type) }
+{
     let mut project = Project::new(alloc, resolved, declared)?;
     for number in resolved.order {
         project.type_module(*number)?;
     }
-    if !project.has_main()? {
+    if !has_main(alloc, &project.schemes)? {
         return Err(TypeError::NoMain);
     }
     let Project { schemes, .. } = project;
@@ -229,24 +235,5 @@ impl<'a> Project<'a> {
             place: place_at(self.alloc, part.module, lexeme)?,
             name: lexeme_text(self.alloc, part.module, lexeme)?,
         })
-    }
-
-    /// Whether `main` of `Main` can be a function from text to text.
-    fn has_main(&self) -> Result<bool, AllocError> {
-        let entity = Entity {
-            module: Text::from_slice(self.alloc, b"Main")?,
-            space: Space::Value,
-            text: Text::from_slice(self.alloc, b"main")?,
-        };
-        match self.schemes.get(&entity) {
-            Some(scheme) => instance(self.alloc, scheme, &self.main_type()?),
-            None => Ok(false),
-        }
-    }
-
-    fn main_type(&self) -> Result<Mono, AllocError> {
-        let from = self.entities.text(self.alloc)?;
-        let to = self.entities.text(self.alloc)?;
-        function(self.alloc, from, to)
     }
 }
