@@ -1,5 +1,5 @@
-//! The graded trees of a module's infix sequences, as they are asked for: by the first operator or minus of the operands
-//! that stand in a sequence.
+//! The graded trees of a module's infix sequences, as they are asked for: by the first operator of the operands that stand
+//! in a sequence, or by a minus before it.
 use crate::pushing::push;
 use hr_fixity::Graded;
 use hr_sequences::{Sequence, SequencePart, sequences_of};
@@ -65,7 +65,7 @@ impl<'a> Grades<'a> {
         Ok(grades)
     }
 
-    /// The steps of the operands whose first operator or minus is that lexeme.
+    /// The steps of the operands whose first operator is that lexeme, or that have it as a minus before.
     pub fn steps(&self, alloc: Global, lexeme: usize) -> Result<Option<Vec<Step>>, AllocError> {
         let Some(start) = self.starts.get(&lexeme).copied() else {
             return Ok(None);
@@ -100,14 +100,21 @@ fn put_starts(
         if place == root {
             side = Side::Right;
             is_first = true;
-        } else if let Some(item) = item_of(*part) {
-            if is_first {
+        } else if is_first {
+            if let Some(item) = item_of(*part) {
                 starts.insert(item, Start { number, side })?;
+                is_first = !is_infix(*part);
             }
-            is_first = false;
         }
     }
     Ok(())
+}
+
+fn is_infix(part: SequencePart) -> bool {
+    match part {
+        SequencePart::Operator { item: _ } => true,
+        _ => false,
+    }
 }
 
 /// The lexeme of an operator or minus.
