@@ -2,3 +2,4 @@
 
 total  x =  x   -- f
 h = total  1 
+main s = s

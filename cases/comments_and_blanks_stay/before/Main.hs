@@ -2,3 +2,4 @@
 
 f  x =  x   -- f
 h = f  1 
+main s = s

@@ -1,3 +1,4 @@
 f x = x
 g f = f
 h = f 1
+main s = s

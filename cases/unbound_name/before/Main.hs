@@ -1,1 +1,2 @@
 f = g
+main s = s

@@ -1,12 +1,14 @@
 -- How the end of a run follows from its parts.
-use Rattle.std.proofs.Common.{◌≡◌, ℕ, ◌+◌, ◌≤◌, List, Option, Some, None, ◌⊎◌, inl, inr, arith, refl, subst, sym, ap, ◌∙◌}
-use Rattle.std.specs.FinMap.{get}
-use Rattle.hr_shelf.specs.declared.outside.ReadError.{ReadError}
-use Rattle.hr_shelf.specs.Outside.{Store, Output, Files, MayRefuse, Rose, ToldOr, replaced}
+use Rattle.std.proofs.Common.{◌≡◌, ℕ, ◌+◌, ◌≤◌, ◌<◌, List, [], map, length, take, Some, ◌⊎◌, inl, inr, arith, refl, subst, sym, ap, ◌∙◌}
+use Rattle.hr_shelf.specs.Outside.{Store, Output, Rose}
+use Rattle.hr_files.specs.Read.{AreRead, IsUnread, OnlyReads}
+use Rattle.hr_files.specs.Replaced.{after_changes}
+use Rattle.hr_files.specs.declared.reading.Unread.{Unread}
+use Rattle.hr_files.specs.declared.replacing.Change.{Change}
 use Rattle.hare.specs.declared.status.Status.{Status}
-use Rattle.hare.specs.Ends.{AreGood, Ends, EndsWith, IsOffered, IsRead}
-use Rattle.hare.specs.Outsides.{Outside, OnlyRead, IsReplaced, IsLeft, IsWritten, outside}
-use Rattle.hare.specs.Steps.{WasRead}
+use Rattle.hare.specs.Ends.{AreFew, AreGood, Ends, EndsWith, IsOffered, Reads}
+use Rattle.hare.specs.Outsides.{IsBrokenOff, IsCutOff, IsKept, IsReplaced, IsWritten, Outside}
+use Rattle.hare.specs.Steps.{WereRead}
 use Rattle.hare.specs.Words.{Renaming}
 
 -- the report is written
@@ -29,38 +31,38 @@ pub told : (words : List (List ℕ)) (before after : Outside) (status : Status) 
 told words before after status text result ends (inl (e, w)) = subst (Ends words before after) (sym e) (stands words before after status text ends w)
 told words before after status text result ends (inr (e, broken)) = subst (Ends words before after) (sym e) (status, text, ends, broken)
 
--- the file of a command was read
-pub was_read : (words : List (List ℕ)) (renaming : Renaming) (bytes : List ℕ) (start now : Store) → AreGood words renaming → WasRead renaming bytes start now → IsRead words start renaming bytes
-was_read words renaming bytes start now good read = record { good = good; reads = read.reads; within = read.within }
+-- the files of a command were read
+pub were_read : (words : List (List ℕ)) (renaming : Renaming) (olds : List (List ℕ)) (start now : Store) → AreFew words renaming → WereRead renaming olds start now
+    → Reads words start renaming olds
+were_read words renaming olds start now few read = (few, read.texts)
 
--- and then replaced, or not
-pub replaces : (file new : List ℕ) (start now after : Store) → OnlyRead start now → after.told ≡ replaced now.told file new → after.replace_faults ≡ now.replace_faults
-    → after.calls ≤ now.calls + 1 → IsReplaced file new start after
-replaces file new start now after only told kept calls = record {
-  told = told ∙ ap (λ known. replaced known file new) only.told;
-  replaces = kept ∙ only.replaces;
-  calls = omega (arith, calls, only.calls);
+calls_together : (start now after names found changes : ℕ) → now ≤ start + names → after ≤ now + found → found ≡ changes → after ≤ start + (names + changes)
+calls_together start now after names found changes kept calls same = omega (arith, kept, calls, same)
+
+-- reads leave the files
+pub only_reads : (files : ℕ) (before after : Store) → OnlyReads before after → after.calls ≤ before.calls + files → IsKept files before after
+only_reads files before after only calls = record { told = only.told; replaces = only.replaces; calls = calls }
+
+-- no call leaves them too
+pub untouched : (files : ℕ) (store : Store) → IsKept files store store
+untouched files store = record { told = refl; replaces = refl; calls = omega arith }
+
+-- files were read, and then replaced, or not all of them
+pub replaces : (names : List (List ℕ)) (found changes : List Change) (start now after : Store) → found ≡ changes → IsKept (length names) start now
+    → after.told ≡ after_changes names now.told found → after.replace_faults ≡ now.replace_faults → after.calls ≤ now.calls + length found
+    → IsReplaced names changes start after
+replaces names found changes start now after same kept told counts calls = record {
+  told = told ∙ ap (λ known. after_changes names known found) kept.told ∙ ap (after_changes names start.told) same;
+  replaces = counts ∙ kept.replaces;
+  calls = calls_together start.calls now.calls after.calls (length names) (length found) (length changes) kept.calls calls (ap length same);
 }
 
-pub leaves : (start now after : Store) → OnlyRead start now → after.told ≡ now.told → Rose now.replace_faults after.replace_faults → after.calls ≤ now.calls + 1 → IsLeft start after
-leaves start now after only told rose calls = record {
-  told = told ∙ only.told;
-  replaces = subst (λ count. Rose count after.replace_faults) only.replaces rose;
-  calls = omega (arith, calls, only.calls);
+pub cuts_off : (names : List (List ℕ)) (found changes : List Change) (refused : ℕ) (start now after : Store) → found ≡ changes → IsKept (length names) start now
+    → refused < length found → after.told ≡ after_changes names now.told (take refused found) → Rose now.replace_faults after.replace_faults
+    → after.calls ≤ now.calls + length found → IsCutOff names changes refused start after
+cuts_off names found changes refused start now after same kept within told rose calls = record {
+  within = subst (λ list. refused < length list) same within;
+  told = told ∙ ap (λ known. after_changes names known (take refused found)) kept.told ∙ ap (λ list. after_changes names start.told (take refused list)) same;
+  replaces = subst (λ count. Rose count after.replace_faults) kept.replaces rose;
+  calls = calls_together start.calls now.calls after.calls (length names) (length found) (length changes) kept.calls calls (ap length same);
 }
-
--- a file that a read didn't find, or failed to read
-pub missed : (error : ReadError) (known : Option Files) (name : List ℕ) (limit : ℕ) (risen : Type 0) → (error ≡ ReadError.Absent) ⊎ (error ≡ ReadError.Failed)
-    → MayRefuse error known name limit risen → ToldOr known (λ files. (get files name ≡ None) ⊎ risen) risen
-missed ReadError.Absent None name limit risen which may = may
-missed ReadError.Absent (Some files) name limit risen which may = inl may
-missed ReadError.TooLong known name limit risen (inl e) may = absurd cc
-missed ReadError.TooLong known name limit risen (inr e) may = absurd cc
-missed ReadError.Failed None name limit risen which may = may
-missed ReadError.Failed (Some files) name limit risen which may = inr may
-missed ReadError.Memory known name limit risen (inl e) may = absurd cc
-missed ReadError.Memory known name limit risen (inr e) may = absurd cc
-
--- a read leaves the files
-pub only_read : (before after : Store) → after.told ≡ before.told → after.replace_faults ≡ before.replace_faults → after.calls ≤ before.calls + 1 → OnlyRead before after
-only_read before after told replaces calls = record { told = told; replaces = replaces; calls = calls }

@@ -1,7 +1,6 @@
-mod Causes
-mod Due
-mod Ends
-mod Lines
-mod OneTarget
-mod OneTree
-mod SomeDue
+pub mod Ends
+pub mod OneTarget
+pub mod OneTree
+pub mod PlainSteps
+pub mod Ready
+pub mod Reports

@@ -1,76 +1,112 @@
 -- How a run ends: what each status says of the words, of the files and of the report.
-use Rattle.std.specs.Prelude.{◌≡◌, ◌≤◌, ℕ, List, length, Some, None, Result, ◌⊎◌}
-use Rattle.std.specs.FinMap.{get}
+use Rattle.std.specs.Prelude.{◌≡◌, ◌≤◌, ◌<◌, ℕ, List, [], ◌∷◌, length, map, codes, slice_index_or, Some, None, Result, ◌⊎◌}
 use Rattle.std.specs.Result.{result_unwrap_or}
-use Rattle.hr_base.specs.Limits.{module_limit}
-use Rattle.hr_shelf.specs.Outside.{Store, Output, HoldsMore, HasBytes, Rose, ToldOr}
+use Rattle.hr_shelf.specs.Outside.{Store, Output}
+use Rattle.hr_files.specs.Read.{AreRead, IsUnread}
+use Rattle.hr_files.specs.Replaced.{changes_from, name_of}
+use Rattle.hr_files.specs.declared.reading.Unread.{Unread}
+use Rattle.hr_files.specs.declared.replacing.Change.{Change}
+use Rattle.hr_check.specs.Projects.{texts_of}
+use Rattle.hr_check.specs.declared.error.LoadError.{LoadError}
+use Rattle.hr_check.specs.declared.project.Project.{Project}
+use Rattle.hr_finish.specs.Compared.{IsFinished}
+use Rattle.hr_finish.specs.declared.finishing.Step.{Step}
 use Rattle.hr_plain_tree.specs.declared.tree.Module.{Module}
-use Rattle.hr_plain.specs.declared.loading.LoadError.{LoadError}
-use Rattle.hr_plain.specs.declared.renaming.Why.{Why}
 use Rattle.hr_plain.specs.Form.{IsPlain}
-use Rattle.hr_plain.specs.Refusals.{IsLoadRefusal}
-use Rattle.hr_plain.specs.Renaming.{IsRenamed, IsWhy}
+use Rattle.hr_plain.specs.Renaming.{IsRenamed}
+use Rattle.hr_why.specs.declared.why.Why.{Why}
 use Rattle.hare.specs.declared.status.Status.{Status}
 use Rattle.hare.specs.declared.status.Status.TheVariants.{Done, StepRefused, BadWords, BadScript, NotAccepted, ReadFault, WriteFault, ReportFault, Memory, OverLimit}
-use Rattle.hare.specs.Outsides.{Outside, outside, OnlyRead, IsReplaced, IsLeft, IsWritten, IsBrokenOff}
+use Rattle.hare.specs.Outsides.{Outside, IsKept, IsReplaced, IsCutOff, IsWritten, IsBrokenOff}
 use Rattle.hare.specs.Words.{Renaming, renaming_of}
 use Rattle.hare.specs.Report as report
+
+-- the files of a project, at most
+abbrev pub files_limit : ℕ
+files_limit = 200
 
 -- the words are the renaming
 abbrev pub AreGood : List (List ℕ) → Renaming → Type 0
 AreGood words renaming = renaming_of words ≡ Some renaming
 
--- the renaming is accepted: the old bytes are a text of the plain form, and the new ones are its text with the
--- name renamed
-pub record IsStep (renaming : Renaming) (old new : List ℕ) : Type 0 where
+-- the words are a renaming in a project of so few files
+abbrev pub AreFew : List (List ℕ) → Renaming → Type 0
+AreFew words renaming = AreGood words renaming × (length renaming.files ≤ files_limit)
+
+-- the renaming is accepted in a text of the plain form, and these are its bytes with the name renamed
+pub record IsPlainStep (renaming : Renaming) (old new : List ℕ) : Type 0 where
   pub tree : Module
   pub plain : IsPlain old tree
   pub renamed : IsRenamed tree renaming.module_name renaming.pos renaming.new_name new
 
--- the renaming is refused: the old bytes are a text of the plain form, and this is why
-pub record IsStepRefusal (renaming : Renaming) (old : List ℕ) (why : Why) : Type 0 where
-  pub tree : Module
-  pub plain : IsPlain old tree
-  pub cause : IsWhy tree renaming.module_name renaming.pos renaming.new_name why
+-- where the project is one text of the plain form in which the renaming is accepted, the new text is that one
+abbrev pub IsMeant : Renaming → List (List ℕ) → List (List ℕ) → Type 0
+IsMeant renaming olds news = (old new : List ℕ) → olds ≡ old ∷ [] → IsPlainStep renaming old new → news ≡ new ∷ []
 
--- the bytes of the renaming's file, which a told shelf has under its name, and which are not too many
-pub record IsRead (words : List (List ℕ)) (before : Store) (renaming : Renaming) (old : List ℕ) : Type 0 where
-  pub good : AreGood words renaming
-  pub reads : HasBytes before.told renaming.file old
-  pub within : length old ≤ module_limit
+-- the new text is that of the renaming in one text of the plain form
+abbrev pub IsMadePlainly : Renaming → List (List ℕ) → List (List ℕ) → Type 0
+IsMadePlainly renaming olds news = (old new : List ℕ) × (olds ≡ old ∷ []) × (news ≡ new ∷ []) × IsPlainStep renaming old new
 
--- the reads of the renaming's file were refused once more
-abbrev pub ReadFailed : Renaming → Store → Store → Type 0
-ReadFailed renaming before after = Rose (before.read_faults renaming.file) (after.read_faults renaming.file)
+-- the new texts are those of a project that was compared with the old ones' project
+pub record IsWholeStep (olds news : List (List ℕ)) : Type 0 where
+  pub project : Project
+  pub step : Step
+  pub old : texts_of project ≡ olds
+  pub new : texts_of step.project ≡ news
+  pub finished : IsFinished project step
+
+-- the renaming is carried out: these are the new texts
+pub record IsStep (renaming : Renaming) (olds news : List (List ℕ)) : Type 0 where
+  pub meant : IsMeant renaming olds news
+  pub made : IsMadePlainly renaming olds news ⊎ IsWholeStep olds news
+
+-- and then it isn't refused
+abbrev pub IsNoPlainStep : Renaming → List (List ℕ) → Type 0
+IsNoPlainStep renaming olds = (old new : List ℕ) → olds ≡ old ∷ [] → IsPlainStep renaming old new → ⊥
+
+-- the texts of the renaming's files
+abbrev pub Reads : List (List ℕ) → Store → Renaming → List (List ℕ) → Type 0
+Reads words before renaming olds = AreFew words renaming × AreRead renaming.files before olds
+
+abbrev pub changes : List (List ℕ) → List (List ℕ) → List Change
+changes olds news = changes_from news 0 olds
+
+-- the names of the files that change
+abbrev pub changed : Renaming → List (List ℕ) → List (List ℕ) → List (List ℕ)
+changed renaming olds news = map (λ change. name_of renaming.files change) (changes olds news)
+
+-- what passes its limit: the number of files, a file, or all of them together
+abbrev pub IsOver : Renaming → Store → Store → List ℕ → Type 0
+IsOver renaming before after text =
+    ((files_limit < length renaming.files) × (text ≡ report.over_limit (codes "modules")))
+    ⊎ (((file : ℕ) × IsUnread renaming.files before after (Unread.TooLong file) × (text ≡ report.over_limit (slice_index_or renaming.files file [])))
+    ⊎ (IsUnread renaming.files before after Unread.TooLongTogether × (text ≡ report.over_limit (codes "project"))))
 
 -- what each status says, where the report is written whole, of the words, of the files, of the causes and of the
 -- report's text; a status that says nothing of a report doesn't come so
 abbrev pub EndsWith : List (List ℕ) → Store → Store → Status → List ℕ → Type 0
 EndsWith words before after Done text =
-    (renaming : Renaming) × (old new : List ℕ) × IsRead words before renaming old × IsStep renaming old new
-    × IsReplaced renaming.file new before after × (text ≡ report.done renaming)
+    (renaming : Renaming) × (olds news : List (List ℕ)) × Reads words before renaming olds × IsStep renaming olds news
+    × IsReplaced renaming.files (changes olds news) before after × (text ≡ report.done (changed renaming olds news))
 EndsWith words before after StepRefused text =
-    (renaming : Renaming) × (old : List ℕ) × (why : Why) × IsRead words before renaming old × IsStepRefusal renaming old why
-    × OnlyRead before after × (Some text ≡ report.refused renaming why)
+    (renaming : Renaming) × (olds : List (List ℕ)) × (why : Why) × Reads words before renaming olds × IsNoPlainStep renaming olds
+    × IsKept (length renaming.files) before after × (Some text ≡ report.refused why)
 EndsWith words before after BadWords text =
     (renaming_of words ≡ None) × (after ≡ before) × (text ≡ report.bad_words)
 EndsWith words before after BadScript text = ⊥
 EndsWith words before after NotAccepted text =
-    (renaming : Renaming) × (old : List ℕ) × (error : LoadError) × IsRead words before renaming old × IsLoadRefusal old error
-    × OnlyRead before after × (Some text ≡ report.not_accepted renaming error)
+    (renaming : Renaming) × (olds : List (List ℕ)) × (error : LoadError) × Reads words before renaming olds
+    × IsKept (length renaming.files) before after × (Some text ≡ report.not_accepted renaming.files error)
 EndsWith words before after ReadFault text =
-    (renaming : Renaming) × AreGood words renaming
-    × ToldOr before.told (λ files. (get files renaming.file ≡ None) ⊎ ReadFailed renaming before after) (ReadFailed renaming before after)
-    × OnlyRead before after × (text ≡ report.read_fault renaming)
+    (renaming : Renaming) × (file : ℕ) × AreFew words renaming × IsUnread renaming.files before after (Unread.Missing file)
+    × IsKept (length renaming.files) before after × (text ≡ report.read_fault (slice_index_or renaming.files file []))
 EndsWith words before after WriteFault text =
-    (renaming : Renaming) × (old new : List ℕ) × IsRead words before renaming old × IsStep renaming old new
-    × IsLeft before after × (text ≡ report.write_fault renaming)
+    (renaming : Renaming) × (olds news : List (List ℕ)) × (refused : ℕ) × Reads words before renaming olds × IsStep renaming olds news
+    × IsCutOff renaming.files (changes olds news) refused before after
+    × (text ≡ report.write_fault (slice_index_or (changed renaming olds news) refused []))
 EndsWith words before after ReportFault text = ⊥
 EndsWith words before after Memory text = ⊥
-EndsWith words before after OverLimit text =
-    (renaming : Renaming) × AreGood words renaming
-    × ToldOr before.told (λ files. HoldsMore files renaming.file module_limit) (ReadFailed renaming before after)
-    × OnlyRead before after × (text ≡ report.over_limit renaming)
+EndsWith words before after OverLimit text = (renaming : Renaming) × AreGood words renaming × IsKept (length renaming.files) before after × IsOver renaming before after text
 
 -- a status that is told by its report
 abbrev pub Told : List (List ℕ) → Outside → Outside → Status → Type 0
@@ -84,15 +120,6 @@ Ends words before after ReportFault =
     (status : Status) × (text : List ℕ) × EndsWith words before.store after.store status text × IsBrokenOff text before.output after.output
 Ends words before after Memory = (after.store.told ≡ before.store.told) × (after.output ≡ before.output)
 Ends words before after status = Told words before after status
-
--- so ended a run of these words that found the one shelf and sink and left the other ones
-abbrev pub Runs : List (List ℕ) → Store → Output → Store → Output → Status → Type 0
-Runs words store output next_store next_output status = Ends words (outside store output) (outside next_store next_output) status
-
--- a run of whatever words are this renaming
-abbrev pub RunsFor : Renaming → Store → Output → Store → Output → Status → Type 0
-RunsFor renaming store output next_store next_output status =
-    (words : List (List ℕ)) → AreGood words renaming → Runs words store output next_store next_output status
 
 -- the status of an answer: that of want of memory where there is none
 abbrev pub status_of : {E : Type 0} → Result Status E → Status

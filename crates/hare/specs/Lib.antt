@@ -1,5 +1,4 @@
 pub mod Codes
-pub mod Due
 pub mod Ends
 pub mod Outsides
 pub mod Report

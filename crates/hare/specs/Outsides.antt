@@ -1,6 +1,8 @@
 -- What a run sees and changes outside: a shelf and a sink, and what becomes of them.
-use Rattle.std.specs.Prelude.{◌≡◌, ℕ, ◌+◌, ◌≤◌, List}
-use Rattle.hr_shelf.specs.Outside.{Store, Output, Rose, replaced, appended, AppendsPrefix}
+use Rattle.std.specs.Prelude.{◌≡◌, ℕ, ◌+◌, ◌≤◌, ◌<◌, List, length, take}
+use Rattle.hr_shelf.specs.Outside.{Store, Output, Rose, appended, AppendsPrefix}
+use Rattle.hr_files.specs.Replaced.{after_changes, name_of}
+use Rattle.hr_files.specs.declared.replacing.Change.{Change}
 
 pub record Outside : Type 0 where
   pub store : Store
@@ -9,23 +11,26 @@ pub record Outside : Type 0 where
 abbrev pub outside : Store → Output → Outside
 outside store output = record { store = store; output = output }
 
--- one call at most, a read: no file and no count of replaces changed
-pub record OnlyRead (before after : Store) : Type 0 where
+-- a call for each of so many files at most, a read: no file and no count of replaces changed
+pub record IsKept (files : ℕ) (before after : Store) : Type 0 where
   pub told : after.told ≡ before.told
   pub replaces : after.replace_faults ≡ before.replace_faults
-  pub calls : after.calls ≤ before.calls + 1
+  pub calls : after.calls ≤ before.calls + files
 
--- a read and a replace at most: the file has the new bytes, and no replace failed
-pub record IsReplaced (file new : List ℕ) (before after : Store) : Type 0 where
-  pub told : after.told ≡ replaced before.told file new
+-- a read for each file and a replace for each change at most: the files of the changes have their new bytes, and no
+-- replace failed
+pub record IsReplaced (names : List (List ℕ)) (changes : List Change) (before after : Store) : Type 0 where
+  pub told : after.told ≡ after_changes names before.told changes
   pub replaces : after.replace_faults ≡ before.replace_faults
-  pub calls : after.calls ≤ before.calls + 2
+  pub calls : after.calls ≤ before.calls + (length names + length changes)
 
--- a read and a replace at most: the replace failed, and no file changed
-pub record IsLeft (before after : Store) : Type 0 where
-  pub told : after.told ≡ before.told
+-- a read for each file and a replace for each change at most: a replace failed, the files before it have their new
+-- bytes, and the others are as they were
+pub record IsCutOff (names : List (List ℕ)) (changes : List Change) (refused : ℕ) (before after : Store) : Type 0 where
+  pub within : refused < length changes
+  pub told : after.told ≡ after_changes names before.told (take refused changes)
   pub replaces : Rose before.replace_faults after.replace_faults
-  pub calls : after.calls ≤ before.calls + 2
+  pub calls : after.calls ≤ before.calls + (length names + length changes)
 
 -- one piece at most: the sink took the report, and no write failed
 pub record IsWritten (report : List ℕ) (before after : Output) : Type 0 where

@@ -1,13 +1,13 @@
 -- The report of a run, as bytes: one line for the command, then what changed or what went wrong.
-use Rattle.std.specs.Prelude.{ℕ, List, [], ◌∷◌, ◌++◌, codes, Option, Some, None}
+use Rattle.std.specs.Prelude.{ℕ, List, [], ◌∷◌, ◌++◌, codes, length, Option, Some, None}
 use Rattle.std.specs.Fmt.{decimal}
 use Rattle.std.specs.Option.{option_map}
-use Rattle.hr_base.specs.declared.place.Pos.{Pos}
-use Rattle.hr_plain.specs.declared.loading.LoadError.{LoadError}
-use Rattle.hr_plain.specs.declared.renaming.Why.{Why}
-use Rattle.hr_plain.specs.Refusals.{load_number, load_place}
-use Rattle.hr_plain.specs.Renaming.{number_of}
-use Rattle.hare.specs.Words.{Renaming}
+use Rattle.hr_check.specs.Numbers.{load_number}
+use Rattle.hr_check.specs.declared.error.LoadError.{LoadError}
+use Rattle.hr_report.specs.Projects.{load_fields, refusal_text}
+use Rattle.hr_report.specs.Steps.{why_fields}
+use Rattle.hr_why.specs.Numbers.{number_of}
+use Rattle.hr_why.specs.declared.why.Why.{Why}
 
 -- a line: the text and a linefeed (10)
 abbrev pub line : List ℕ → List ℕ
@@ -16,55 +16,31 @@ line text = text ++ (10 ∷ [])
 abbrev pub bad_words : List ℕ
 bad_words = line (codes "words: refused")
 
--- why a file is not accepted: the number of the cause, and what is shown of it behind a blank (32)
-abbrev pub cause : ℕ → List ℕ → List ℕ
-cause number shown = codes "not accepted: " ++ (decimal number ++ (32 ∷ shown))
+-- why the texts of files with these names are no project; nothing for want of memory
+abbrev pub not_accepted : List (List ℕ) → LoadError → Option (List ℕ)
+not_accepted files error = option_map (λ number. line (codes "not accepted: " ++ refusal_text number (load_fields files error))) (load_number error)
 
--- the file, with the place in bytes from 0 where there is one, and the line's end
-abbrev pub placed : List ℕ → Option ℕ → List ℕ
-placed file None = line file
-placed file (Some place) = file ++ (32 ∷ line (decimal place))
+abbrev pub read_fault : List ℕ → List ℕ
+read_fault file = line (codes "read fault: " ++ file)
 
--- a file that is not accepted; nothing for want of memory
-abbrev pub not_accepted : Renaming → LoadError → Option (List ℕ)
-not_accepted renaming error = option_map (λ number. cause number (placed renaming.file (load_place error))) (load_number error)
-
-abbrev pub read_fault : Renaming → List ℕ
-read_fault renaming = line (codes "read fault: " ++ renaming.file)
-
-abbrev pub over_limit : Renaming → List ℕ
-over_limit renaming = line (codes "over limit: " ++ renaming.file)
+-- what passes a limit: a file, `modules` or `project`
+abbrev pub over_limit : List ℕ → List ℕ
+over_limit what = line (codes "over limit: " ++ what)
 
 abbrev pub done_line : List ℕ
 done_line = line (codes "1 rename: done")
 
-abbrev pub done : Renaming → List ℕ
-done renaming = done_line ++ (line (codes "changed 1") ++ line renaming.file)
+abbrev pub lines : List (List ℕ) → List ℕ
+lines [] = []
+lines (text ∷ texts) = line text ++ lines texts
 
-abbrev pub write_fault : Renaming → List ℕ
-write_fault renaming = done_line ++ line (codes "write fault: " ++ renaming.file)
+-- the files that changed, by their names
+abbrev pub done : List (List ℕ) → List ℕ
+done changed = done_line ++ (line (codes "changed " ++ decimal (length changed)) ++ lines changed)
 
--- a refusal's line ends, and nothing changed
-abbrev pub unchanged : List ℕ
-unchanged = 10 ∷ line (codes "changed 0")
+abbrev pub write_fault : List ℕ → List ℕ
+write_fault file = done_line ++ line (codes "write fault: " ++ file)
 
--- a module and a position in it, behind colons (58), and then more
-abbrev pub place_then : List ℕ → Pos → List ℕ → List ℕ
-place_then module_name pos behind = module_name ++ (58 ∷ (decimal pos.line ++ (58 ∷ (decimal pos.col ++ behind))))
-
--- a step's refusal: its number, and what is shown behind it
-abbrev pub refusal : ℕ → List ℕ → List ℕ
-refusal number behind = codes "1 rename: refused " ++ (decimal number ++ behind)
-
--- behind a blank (32) where the renaming looks for a name
-abbrev pub sought_then : Renaming → List ℕ → List ℕ
-sought_then renaming behind = 32 ∷ place_then renaming.module_name renaming.pos behind
-
--- what is shown behind the number
-abbrev pub behind_number : Renaming → Why → List ℕ
-behind_number renaming (Why.NoSuchThing _) = sought_then renaming unchanged
-behind_number renaming _ = unchanged
-
--- a step that is refused; nothing for want of memory
-abbrev pub refused : Renaming → Why → Option (List ℕ)
-refused renaming why = option_map (λ number. refusal number (behind_number renaming why)) (number_of why)
+-- a step that is refused, with the refusal's number and fields, and nothing changed; nothing for want of memory
+abbrev pub refused : Why → Option (List ℕ)
+refused why = option_map (λ number. line (codes "1 rename: refused " ++ refusal_text number (why_fields why)) ++ line (codes "changed 0")) (number_of why)

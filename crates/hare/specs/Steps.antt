@@ -1,43 +1,61 @@
--- A renaming on the bytes of its file.
-use Rattle.std.specs.Prelude.{ℕ, ◌≤◌, List, length}
+-- A renaming on the texts of its files.
+use Rattle.std.specs.Prelude.{◌≡◌, ℕ, ◌≤◌, List, All, length}
 use Rattle.hr_base.specs.Limits.{module_limit}
-use Rattle.hr_shelf.specs.declared.outside.ReadError.{ReadError}
-use Rattle.hr_shelf.specs.Outside.{Store, Output, MayRefuse, HasBytes}
-use Rattle.hr_plain.specs.Refusals.{IsLoadRefusal}
-use Rattle.hare.specs.declared.refactoring.Step.{Step}
+use Rattle.hr_shelf.specs.Outside.{Store, Output}
+use Rattle.hr_files.specs.Read.{AreRead, AreReady, IsUnread}
+use Rattle.hr_files.specs.declared.reading.Unread.{Unread}
+use Rattle.hr_check.specs.Projects.{texts_of}
+use Rattle.hr_check.specs.declared.project.Project.{Project}
+use Rattle.hr_finish.specs.Compared.{IsFinished}
+use Rattle.hr_finish.specs.declared.finishing.Step as finish
+use Rattle.hare.specs.declared.steps.Step.{Step}
 use Rattle.hare.specs.declared.status.Status.{Status}
-use Rattle.hare.specs.Ends.{IsStep, IsStepRefusal, ReadFailed, RunsFor}
-use Rattle.hare.specs.Outsides.{OnlyRead}
+use Rattle.hare.specs.Ends.{AreFew, AreGood, Ends, IsNoPlainStep, IsStep}
+use Rattle.hare.specs.Outsides.{IsKept, outside}
 use Rattle.hare.specs.Words.{Renaming}
 
+-- no text is too long
+abbrev pub AreShort : List (List ℕ) → Type 0
+AreShort texts = All (λ text. length text ≤ module_limit) texts
+
 -- what became of it in memory
-abbrev pub IsOutcome : Renaming → List ℕ → Step → Type 0
-IsOutcome renaming old (Step.Renamed new) = IsStep renaming old new
-IsOutcome renaming old (Step.NotAccepted error) = IsLoadRefusal old error
-IsOutcome renaming old (Step.Refused why) = IsStepRefusal renaming old why
+abbrev pub IsOutcome : Renaming → List (List ℕ) → Step → Type 0
+IsOutcome renaming olds (Step.Renamed news) = IsStep renaming olds news
+IsOutcome renaming olds (Step.NotAccepted error) = Unit {0}
+IsOutcome renaming olds (Step.Refused why) = IsNoPlainStep renaming olds
 
--- the bytes are those of its file, which was read since the start
-pub record WasRead (renaming : Renaming) (bytes : List ℕ) (start now : Store) : Type 0 where
-  pub reads : HasBytes start.told renaming.file bytes
-  pub within : length bytes ≤ module_limit
-  pub only : OnlyRead start now
+-- what became of it in the whole project
+abbrev pub IsWholeOutcome : Project → Step → Type 0
+IsWholeOutcome project (Step.Renamed news) = (step : finish.Step) × (texts_of step.project ≡ news) × IsFinished project step
+IsWholeOutcome project (Step.NotAccepted error) = Unit {0}
+IsWholeOutcome project (Step.Refused why) = Unit {0}
 
--- its file was asked for since the start, and this was the answer
-pub record WasRefused (renaming : Renaming) (error : ReadError) (start now : Store) : Type 0 where
-  pub cause : MayRefuse error start.told renaming.file module_limit (ReadFailed renaming start now)
-  pub only : OnlyRead start now
+-- a run of whatever words are this renaming, which found the one shelf and sink and left the other ones
+abbrev pub RunsFor : Renaming → Store → Output → Store → Output → Status → Type 0
+RunsFor renaming store output next_store next_output status =
+    (words : List (List ℕ)) → AreFew words renaming → Ends words (outside store output) (outside next_store next_output) status
 
--- a run, whatever shelf its file was asked for of, where this was the answer
-abbrev pub RunsUnread : Renaming → ReadError → Output → Output → Status → Type 0
-RunsUnread renaming error output next_output status =
-    (start now : Store) → WasRefused renaming error start now → RunsFor renaming start output now next_output status
+-- a run of whatever words are this renaming, its files being few or many
+abbrev pub RunsAny : Renaming → Store → Output → Store → Output → Status → Type 0
+RunsAny renaming store output next_store next_output status =
+    (words : List (List ℕ)) → AreGood words renaming → Ends words (outside store output) (outside next_store next_output) status
 
--- a run that goes on from this shelf, whatever shelf the bytes of its file were read of
-abbrev pub RunsOn : Renaming → List ℕ → Store → Output → Store → Output → Status → Type 0
-RunsOn renaming bytes now output next_store next_output status =
-    (start : Store) → WasRead renaming bytes start now → RunsFor renaming start output next_store next_output status
+-- the texts are those of its files, which were read since the start
+pub record WereRead (renaming : Renaming) (olds : List (List ℕ)) (start now : Store) : Type 0 where
+  pub texts : AreRead renaming.files start olds
+  pub kept : IsKept (length renaming.files) start now
 
--- the same from the new text on, whatever bytes it comes from
-abbrev pub RunsTo : Renaming → List ℕ → Store → Output → Store → Output → Status → Type 0
-RunsTo renaming new now output next_store next_output status =
-    (old : List ℕ) → IsStep renaming old new → RunsOn renaming old now output next_store next_output status
+-- its files were asked for since the start, and this was the answer
+pub record WereRefused (renaming : Renaming) (unread : Unread) (start now : Store) : Type 0 where
+  pub cause : IsUnread renaming.files start now unread
+  pub kept : IsKept (length renaming.files) start now
+
+-- a run, whatever shelf its files were asked for of, where this was the answer
+abbrev pub RunsUnread : Renaming → Unread → Output → Output → Status → Type 0
+RunsUnread renaming unread output next_output status =
+    (start now : Store) → WereRefused renaming unread start now → RunsFor renaming start output now next_output status
+
+-- a run that goes on from this shelf, whatever shelf the texts of its files were read of
+abbrev pub RunsOn : Renaming → List (List ℕ) → Store → Output → Store → Output → Status → Type 0
+RunsOn renaming olds now output next_store next_output status =
+    (start : Store) → WereRead renaming olds start now → RunsFor renaming start output next_store next_output status

@@ -5,9 +5,9 @@ use hr_shelf::{MemoryShelf, MemorySink};
 use std::alloc::Global;
 use std::test::Fail;
 
-const SUMS: &str = "f x = g x 1   -- sums\ng a b = h (a) b\nh a b = f a\n";
+const SUMS: &str = "f x = g x 1   -- sums\ng a b = h (a) b\nh a b = f a\nmain s = s\n";
 
-const TOTAL: &str = "total x = g x 1   -- sums\ng a b = h (a) b\nh a b = total a\n";
+const TOTAL: &str = "total x = g x 1   -- sums\ng a b = h (a) b\nh a b = total a\nmain s = s\n";
 
 fn calls(alloc: Global, failing: &[u32]) -> Result<Seq<u32>, Fail> {
     Ok(Seq {

@@ -7,22 +7,22 @@ use hr_base::Pos;
 use hr_script::{is_module_name, is_word, pos_of};
 use std::alloc::{AllocError, Global};
 
-/// A renaming in a file: the module and the position of a name, and the new name.
+/// A renaming in a project of these files: the module and the position of a name, and the new name.
 #[derive(Clone, Copy, Debug)]
 pub struct Renaming<'a> {
     pub module: &'a str,
     pub pos: Pos,
     pub new: &'a str,
-    pub file: &'a str,
+    pub files: &'a [String],
 }
 
-/// The command that the words are: `rename MODULE LINE:COLUMN NAME in FILE`, where the module, the
-/// position and the name are as in a script.
+/// The command that the words are: `rename MODULE LINE:COLUMN NAME in FILE ..`, where the module, the
+/// position and the name are as in a script, and there is a file.
 #[tactic(auto, unfolding(crate::specs::Words::renaming_of))]
 pub fn renaming_of(alloc: Global, words: &[String]) -> Result<Option<Renaming<'_>>, AllocError>
     ensures { IfOk result (λ found. MatchOption found (spec.renaming_of (map string_bytes words.now) ≡ None) (λ r. spec.renaming_of (map string_bytes words.now) ≡ Some (shown r))) }
 {
-    let [verb, module, place, new, keyword, file] = words else {
+    let [verb, module, place, new, keyword, _, ..] = words else {
         return Ok(None);
     };
     if !are_words(
@@ -40,7 +40,7 @@ pub fn renaming_of(alloc: Global, words: &[String]) -> Result<Option<Renaming<'_
         module: module.as_str(),
         pos,
         new: new.as_str(),
-        file: file.as_str(),
+        files: words.split_at(5).1,
     }))
 }
 

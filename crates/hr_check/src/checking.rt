@@ -1,3 +1,6 @@
+ghost use Rattle.std.specs.Prelude.{◌≡◌, IfOk};
+ghost use Rattle.hr_check.specs.Projects.{texts_of};
+
 use crate::imports::{edges, names};
 use crate::{LoadError, Project};
 use hr_base::Text;
@@ -14,7 +17,9 @@ use std::alloc::{AllocError, Global};
 
 /// The project of the texts, or the refusal of the first layer that refuses: lexemes and trees text by text; then
 /// the order of imports, exports, names, and fixities.
-pub fn check(alloc: Global, texts: &[Text]) -> Result<Project, LoadError> {
+pub fn check(alloc: Global, texts: &[Text]) -> Result<Project, LoadError>
+    ensures { IfOk result (λ project. texts_of project ≡ texts.now) }
+{
     let trees = read_all(alloc, texts)?;
     let (interfaces, bindings) = check_trees(alloc, trees.as_slice())?;
     Ok(Project {
@@ -85,7 +90,9 @@ fn grade_all(
     Ok(())
 }
 
-fn copies(alloc: Global, texts: &[Text]) -> Result<Vec<Text>, AllocError> {
+fn copies(alloc: Global, texts: &[Text]) -> Result<Vec<Text>, AllocError>
+    ensures { IfOk result (λ list. list.items ≡ texts.now) }
+{
     let mut list = Vec::new(alloc);
     for text in texts {
         list.push(text.clone()?)?;

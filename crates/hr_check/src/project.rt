@@ -1,3 +1,6 @@
+ghost use Rattle.std.specs.Prelude.{◌≡◌};
+ghost use Rattle.hr_check.specs.Projects.{bindings_of, modules_of, texts_of};
+
 use hr_base::Text;
 use hr_tables::{Bindings, Interfaces};
 use hr_tree::Module;
@@ -13,12 +16,16 @@ pub struct Project {
 
 impl Project {
     /// The texts of the modules, without Prelude and Char.
-    pub fn texts(&self) -> &[Text] {
+    pub fn texts(&self) -> &[Text]
+        ensures { result.now ≡ texts_of self.now }
+    {
         self.texts.as_slice()
     }
 
     /// The trees of the modules, Prelude and Char last.
-    pub fn modules(&self) -> &[Module] {
+    pub fn modules(&self) -> &[Module]
+        ensures { result.now ≡ modules_of self.now }
+    {
         self.trees.as_slice()
     }
 
@@ -28,7 +35,9 @@ impl Project {
     }
 
     /// What each name is bound to.
-    pub fn bindings(&self) -> &Bindings {
+    pub fn bindings(&self) -> &Bindings
+        ensures { result.now.modules ≡ bindings_of self.now }
+    {
         &self.bindings
     }
 }

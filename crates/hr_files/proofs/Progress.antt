@@ -15,6 +15,8 @@ pub record Progress (names : List (List ℕ)) (before now : Store) (file : ℕ) 
   pub counted : sum ≡ total texts
   pub together : total texts ≤ project_limit
   pub count : length texts ≡ file
+  pub within : file ≤ length names
+  pub calls : now.calls ≤ before.calls + file
 
 -- so many of the changes were made, and these are left
 pub record Replacing (names : List (List ℕ)) (changes : List Change) (before now : Store) (done : ℕ) (left : List Change) : Type 0 where
@@ -25,3 +27,4 @@ pub record Replacing (names : List (List ℕ)) (changes : List Change) (before n
   pub ready : All (IsReadyChange now.ready names) left
   pub replaces : now.replace_faults ≡ before.replace_faults
   pub reads : now.read_faults ≡ before.read_faults
+  pub calls : now.calls ≤ before.calls + done

@@ -47,10 +47,16 @@ ready_still ready later names stays are k d within = stays _ (are k d within)
 pub suc_is : (n : ℕ) → suc n ≡ n + 1
 suc_is n = omega arith
 
+within_more : (n m : ℕ) → n < m → n + 1 ≤ m
+within_more n m less = omega (arith, less)
+
+pub calls_more : (before now after file : ℕ) → now ≤ before + file → after ≤ now + 1 → after ≤ before + (file + 1)
+calls_more before now after file known calls = omega (arith, known, calls)
+
 pub read_more : (names : List (List ℕ)) (before now after : Store) (file : ℕ) (texts : List (List ℕ)) (counted : ℕ) (name text : List ℕ)
     → Progress names before now file texts counted → file < length names → name ≡ get_or names file [] → OnlyReads now after → HasBytes now.told name text
-    → length text ≤ module_limit → IsReady after.ready name → counted + length text ≤ project_limit → Progress names before after (file + 1) (texts ++ text ∷ []) (counted + length text)
-read_more names before now after file texts counted name text known within is only reads short ready few =
+    → length text ≤ module_limit → IsReady after.ready name → counted + length text ≤ project_limit → after.calls ≤ now.calls + 1 → Progress names before after (file + 1) (texts ++ text ∷ []) (counted + length text)
+read_more names before now after file texts counted name text known within is only reads short ready few calls =
     let front : take (file + 1) names ≡ take file names ++ name ∷ [] = subst (λ n. take n names ≡ take file names ++ get_or names file [] ∷ []) (suc_is file) (take-suc names file [] within) ∙ ap (λ n. take file names ++ n ∷ []) (sym is) in
     let sums : counted + length text ≡ total (texts ++ text ∷ []) = ap (λ n. n + length text) known.counted ∙ sym (total_more texts text) in
     let told : HasBytes before.told name text = subst (λ told. HasBytes told name text) known.only.told reads in
@@ -63,6 +69,8 @@ read_more names before now after file texts counted name text known within is on
       counted = sums;
       together = subst (λ n. n ≤ project_limit) sums few;
       count = length-append texts (text ∷ []) ∙ ap (λ n. n + 1) known.count;
+      within = within_more file (length names) within;
+      calls = calls_more before.calls now.calls after.calls file known.calls calls;
     }
 
 -- the texts that were read are too long together
@@ -92,6 +100,14 @@ pub read_all : (names : List (List ℕ)) (before now : Store) (file : ℕ) (text
 read_all names before now file texts counted known end =
     let whole : take file names ≡ names = take_all file names end in
     (subst (AreReady now.ready) whole known.ready, subst (λ n. HasTexts before.told n texts) whole known.told)
+
+-- as many as there are names
+pub count_all : (names : List (List ℕ)) (before now : Store) (file : ℕ) (texts : List (List ℕ)) (counted : ℕ)
+    → Progress names before now file texts counted → length names ≤ file → length texts ≡ length names
+count_all names before now file texts counted known end =
+    let count = known.count in
+    let within = known.within in
+    omega (arith, count, within, end)
 
 -- a name by its number
 pub named : {X : Type 0} (f : X → List ℕ) (xs : List X) (i : ℕ) (x : X) → i < length xs → x ≡ get_or xs i x → f x ≡ get_or (map f xs) i []

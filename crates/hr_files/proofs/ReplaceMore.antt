@@ -1,10 +1,10 @@
 -- A file more is replaced.
-use Rattle.std.proofs.Common.{◌≡◌, ◌+◌, ℕ, List, [], ◌∷◌, ◌++◌, take, drop, All, Option, suc, zero, refl, sym, ap, ◌∙◌, subst, arith}
+use Rattle.std.proofs.Common.{◌≡◌, ◌≤◌, ◌+◌, ℕ, List, [], ◌∷◌, ◌++◌, take, drop, All, Option, suc, zero, refl, sym, ap, ◌∙◌, subst, arith}
 use Rattle.hr_shelf.specs.Outside.{Files, StaysReady, Store, replaced}
 use Rattle.hr_files.specs.Replaced.{IsReadyChange, after_changes, name_of}
 use Rattle.hr_files.specs.declared.replacing.Change.{Change}
 use Rattle.hr_files.proofs.Progress.{Replacing}
-use Rattle.hr_files.proofs.ReadMore.{suc_is}
+use Rattle.hr_files.proofs.ReadMore.{calls_more, suc_is}
 
 after_more : (names : List (List ℕ)) (told : Option Files) (changes more : List Change) → after_changes names told (changes ++ more) ≡ after_changes names (after_changes names told changes) more
 after_more names told [] more = refl
@@ -38,8 +38,8 @@ ready_rest ready later names change rest stays all k d within = let is = all (su
 
 pub replace_more : (names : List (List ℕ)) (changes : List Change) (before now after : Store) (done : ℕ) (change : Change) (rest : List Change)
     → Replacing names changes before now done (change ∷ rest) → after.told ≡ replaced now.told (name_of names change) change.bytes → StaysReady now.ready after.ready
-    → after.replace_faults ≡ now.replace_faults → after.read_faults ≡ now.read_faults → Replacing names changes before after (done + 1) rest
-replace_more names changes before now after done change rest known told stays replaces reads = record {
+    → after.replace_faults ≡ now.replace_faults → after.read_faults ≡ now.read_faults → after.calls ≤ now.calls + 1 → Replacing names changes before after (done + 1) rest
+replace_more names changes before now after done change rest known told stays replaces reads calls = record {
   rest = subst (λ n. drop n changes ≡ rest) (suc_is done) (tail_of done changes change rest known.rest);
   count = let before = known.count in omega arith;
   front = told ∙ ap (λ t. replaced t (name_of names change) change.bytes) known.front ∙ sym (after_more names before.told (take done changes) (change ∷ []))
@@ -48,6 +48,7 @@ replace_more names changes before now after done change rest known told stays re
   ready = ready_rest now.ready after.ready names change rest stays known.ready;
   replaces = replaces ∙ known.replaces;
   reads = reads ∙ known.reads;
+  calls = calls_more before.calls now.calls after.calls done known.calls calls;
 }
 
 -- the change that comes next has a name that is ready

@@ -29,8 +29,9 @@ pub record OnlyReads (before after : Store) : Type 0 where
 abbrev pub AreReady : List (List ℕ) → List (List ℕ) → Type 0
 AreReady ready names = All (λ name. IsReady ready name) names
 
--- the texts of the files with these names, none of them too long, nor all together
+-- the texts of the files with these names, one for each, none of them too long, nor all together
 pub record AreRead (names : List (List ℕ)) (before : Store) (texts : List (List ℕ)) : Type 0 where
+  pub count : length texts ≡ length names
   pub told : HasTexts before.told names texts
   pub each : All (λ text. length text ≤ module_limit) texts
   pub together : total texts ≤ project_limit

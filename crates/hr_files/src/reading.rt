@@ -1,4 +1,4 @@
-ghost use Rattle.std.specs.Prelude.{◌≡◌, ◌≤◌, [], ◌∷◌, ◌++◌, IfOk, IfErr, OnOk, map, length};
+ghost use Rattle.std.specs.Prelude.{◌≡◌, ◌≤◌, ◌+◌, [], ◌∷◌, ◌++◌, IfOk, IfErr, OnOk, map, length};
 ghost use Rattle.std.specs.String.{string_bytes};
 ghost use Rattle.hr_base.specs.Limits.{module_limit};
 ghost use Rattle.hr_shelf.specs.Outside.{HasBytes, IsReady};
@@ -35,6 +35,7 @@ pub fn read_files<S: Shelf>(
     ensures texts { IfOk result (λ texts. AreRead (map string_bytes names.now) (S.store shelf.old) texts.items) }
     ensures ready { IfOk result (λ texts. AreReady (S.store shelf.new).ready (map string_bytes names.now)) }
     ensures cause { IfErr result (IsUnread (map string_bytes names.now) (S.store shelf.old) (S.store shelf.new)) }
+    ensures counted { (S.store shelf.new).calls ≤ (S.store shelf.old).calls + length names.now }
 {
     let mut texts = Vec::new(alloc);
     let mut total = 0usize;
@@ -71,6 +72,7 @@ fn read_file<S: Shelf>(
     ensures within { IfOk result (λ text. length text ≤ module_limit) }
     ensures ready { OnOk result (IsReady (S.store shelf.new).ready name.now) }
     ensures cause { IfErr result (IsUnreadFile file name.now (S.store shelf.old) (S.store shelf.new)) }
+    ensures counted { (S.store shelf.new).calls ≤ (S.store shelf.old).calls + 1 }
 {
     let bytes = match shelf.read(alloc, name, MODULE_LIMIT) {
         Ok(bytes) => bytes,

@@ -1,4 +1,4 @@
-ghost use Rattle.std.specs.Prelude.{◌≡◌, ◌++◌, ◌<◌, All, IfErr, IfOk, OnOk, length, map, slice_get, take};
+ghost use Rattle.std.specs.Prelude.{◌≡◌, ◌++◌, ◌+◌, ◌<◌, ◌≤◌, All, IfErr, IfOk, OnOk, length, map, slice_get, take};
 ghost use Rattle.std.specs.String.{string_bytes};
 ghost use Rattle.hr_shelf.specs.Outside.{Rose};
 ghost use Rattle.std.specs.Option.{option_copied};
@@ -66,6 +66,7 @@ pub fn replace_files<S: Shelf>(
     ensures cause { IfErr result (λ refused. Rose (S.store shelf.old).replace_faults (S.store shelf.new).replace_faults) }
     ensures kept { OnOk result ((S.store shelf.new).replace_faults ≡ (S.store shelf.old).replace_faults) }
     ensures reads { (S.store shelf.new).read_faults ≡ (S.store shelf.old).read_faults }
+    ensures counted { (S.store shelf.new).calls ≤ (S.store shelf.old).calls + length changes.items }
 {
     let mut done = 0usize;
     for change in changes {

@@ -1,4 +1,6 @@
 //! Exports of a target that clash.
+ghost use Rattle.std.specs.Prelude.{IfOk, IfSome};
+ghost use Rattle.hr_finish.specs.Endings.{IsEnding};
 
 use hr_base::{Space, Text};
 use hr_outline::module_name;
@@ -13,7 +15,9 @@ pub fn export_clash(
     alloc: Global,
     modules: &[Module],
     interfaces: &Interfaces,
-) -> Result<Option<Why>, AllocError> {
+) -> Result<Option<Why>, AllocError>
+    ensures { IfOk result (λ found. IfSome found IsEnding) }
+{
     let Some((number, name)) = first_clash(alloc, interfaces.exports.as_slice())? else {
         return Ok(None);
     };

@@ -1,3 +1,6 @@
+ghost use Rattle.std.specs.Prelude.{IfOk};
+ghost use Rattle.hr_finish.specs.Compared.{IsFinished};
+
 use crate::finishing::{Step, finish};
 use hr_base::{Pos, Text};
 use hr_check::Project;
@@ -12,7 +15,9 @@ pub fn rename(
     module: &str,
     pos: Pos,
     new: &str,
-) -> Result<Step, Why> {
+) -> Result<Step, Why>
+    ensures { IfOk result (IsFinished project.now) }
+{
     let module = Text::from_slice(alloc, module.as_bytes())?;
     let new = Text::from_slice(alloc, new.as_bytes())?;
     let scene = Scene {

@@ -1,5 +1,6 @@
 //! Definitions that the target would read as one: equations of one name that stand next to one another, and come from
 //! two definitions.
+ghost use Rattle.std.specs.Prelude.{◌≡◌, [], IfNone, IfOk};
 
 use hr_base::{Binder, Seq, Spot};
 use hr_draft::{Draft, Drafted, Origin};
@@ -107,7 +108,9 @@ pub fn also_bound(
     one: &Bindings,
     also: Bindings,
     doubles: &[Double],
-) -> Result<Bindings, AllocError> {
+) -> Result<Bindings, AllocError>
+    ensures { IfOk result (λ bound. doubles.now ≡ [] → bound ≡ also) }
+{
     if doubles.is_empty() {
         return Ok(also);
     }
@@ -161,14 +164,18 @@ fn second_of(doubles: &[Double], entry: &Option<Binder>) -> Option<Binder> {
     None
 }
 
-/// The double whose second lexeme comes first.
-pub fn first_double(doubles: &[Double]) -> Option<Double> {
-    let mut first: Option<Double> = None;
-    for double in doubles {
-        first = Some(match first {
-            Some(other) if other.second <= double.second => other,
-            _ => *double,
-        });
+/// The double whose second lexeme comes first, if there is one.
+pub fn first_double(doubles: &[Double]) -> Option<Double>
+    ensures { IfNone result (doubles.now ≡ []) }
+{
+    let [head, rest @ ..] = doubles else {
+        return None;
+    };
+    let mut first = *head;
+    for double in rest {
+        if double.second < first.second {
+            first = *double;
+        }
     }
-    first
+    Some(first)
 }

@@ -1,3 +1,7 @@
+ghost use Rattle.std.specs.Prelude.{IfErr, IfOk, OnOk};
+ghost use Rattle.hr_finish.specs.Compared.{IsCompared, IsFinished};
+ghost use Rattle.hr_finish.specs.Endings.{IsEnding};
+
 use crate::judging::{Trial, why_refused, why_renamed};
 use crate::rereading::are_read;
 use crate::writing::written;
@@ -21,9 +25,12 @@ pub struct Step {
 /// have another in their place. Refused where the target is past a limit (57), a name would be bound otherwise than
 /// meant (36), a region would declare a spelling twice (37) or a module export two things of one spelling (38), the
 /// first of these. A target that isn't read as it was meant writes nothing: it is answered by want of memory.
-pub fn finish(alloc: Global, old: &Project, edits: &[Edit], map: NameMap) -> Result<Step, Why> {
-    let drafts = apply(alloc, old.modules(), edits)?;
-    let Some(texts) = written(alloc, old, drafts.as_slice())? else {
+pub fn finish(alloc: Global, old: &Project, edits: &[Edit], map: NameMap) -> Result<Step, Why>
+    ensures done { IfOk result (IsFinished old.now) }
+    ensures refused { IfErr result IsEnding }
+{
+    let drafts = apply(alloc, old.modules(), edits).map_err(Why::Memory)?;
+    let Some(texts) = written(alloc, old, drafts.as_slice()).map_err(Why::Memory)? else {
         return Err(Why::OverLimit);
     };
     let trial = Trial {
@@ -37,7 +44,7 @@ pub fn finish(alloc: Global, old: &Project, edits: &[Edit], map: NameMap) -> Res
             Ok(Step {
                 project,
                 map,
-                footprint: footprint(alloc, old.modules(), edits)?,
+                footprint: footprint(alloc, old.modules(), edits).map_err(Why::Memory)?,
             })
         }
         Err(error) => Err(why_refused(alloc, trial, texts.as_slice(), &error)),
@@ -45,11 +52,14 @@ pub fn finish(alloc: Global, old: &Project, edits: &[Edit], map: NameMap) -> Res
 }
 
 /// Holds the checked target against the drafts and against what the names mean.
-fn compare(alloc: Global, trial: Trial, new: &Project) -> Result<(), Why> {
-    if !are_read(alloc, trial.old.modules(), new.modules(), trial.drafts)? {
+fn compare(alloc: Global, trial: Trial, new: &Project) -> Result<(), Why>
+    ensures done { OnOk result (IsCompared trial.entry.old.now new.now trial.entry.map.now.pairs trial.entry.drafts.now) }
+    ensures refused { IfErr result IsEnding }
+{
+    if !are_read(alloc, trial.old.modules(), new.modules(), trial.drafts).map_err(Why::Memory)? {
         return Err(Why::Memory(AllocError));
     }
-    match why_renamed(alloc, trial, new)? {
+    match why_renamed(alloc, trial, new).map_err(Why::Memory)? {
         Some(why) => Err(why),
         None => Ok(()),
     }

@@ -1,4 +1,8 @@
 //! Why a target isn't accepted.
+ghost use Rattle.std.specs.Prelude.{◌≡◌, [], IfOk, IfSome, MatchOption, None};
+ghost use Rattle.hr_check.specs.Projects.{bindings_of};
+ghost use Rattle.hr_step.specs.Names.{first_rebound};
+ghost use Rattle.hr_finish.specs.Endings.{IsEnding};
 
 use crate::clashes::export_clash;
 use crate::doubles::{Double, also_bound, first_double, merged_definitions};
@@ -27,7 +31,9 @@ pub struct Trial<'a> {
 }
 
 /// Why the target isn't accepted, from what its check has refused.
-pub fn why_refused(alloc: Global, trial: Trial, texts: &[Text], error: &LoadError) -> Why {
+pub fn why_refused(alloc: Global, trial: Trial, texts: &[Text], error: &LoadError) -> Why
+    ensures { IsEnding result }
+{
     match error {
         LoadError::Parse {
             error: ParseError::TooDeep { .. },
@@ -45,7 +51,9 @@ pub fn why_refused(alloc: Global, trial: Trial, texts: &[Text], error: &LoadErro
 }
 
 /// The first of the refusals for names that are bound otherwise, declared twice, or exported twice.
-fn judged(alloc: Global, trial: Trial, texts: &[Text]) -> Result<Option<Why>, AllocError> {
+fn judged(alloc: Global, trial: Trial, texts: &[Text]) -> Result<Option<Why>, AllocError>
+    ensures { IfOk result (λ found. IfSome found IsEnding) }
+{
     let Ok(trees) = read_all(alloc, texts) else {
         return Err(AllocError);
     };
@@ -103,7 +111,9 @@ fn spot_at(modules: &[Module], place: &Place) -> Option<Spot> {
 }
 
 /// Why a target that its check has accepted is refused: a name is bound otherwise, or two definitions are read as one.
-pub fn why_renamed(alloc: Global, trial: Trial, new: &Project) -> Result<Option<Why>, AllocError> {
+pub fn why_renamed(alloc: Global, trial: Trial, new: &Project) -> Result<Option<Why>, AllocError>
+    ensures { IfOk result (λ found. MatchOption found (first_rebound trial.entry.drafts.now trial.entry.map.now.pairs (bindings_of trial.entry.old.now) (bindings_of new.now) [] ≡ None) IsEnding) }
+{
     let doubles = merged_definitions(alloc, trial.old.modules(), new.modules(), trial.drafts)?;
     let none = Bindings {
         modules: Seq {
@@ -125,7 +135,9 @@ fn why_of_names(
     new: &[Module],
     meanings: Meanings,
     double: Option<Double>,
-) -> Result<Option<Why>, AllocError> {
+) -> Result<Option<Why>, AllocError>
+    ensures { IfOk result (λ found. IfSome found IsEnding) }
+{
     let Meanings { one, also } = meanings;
     let mut doubles = merged_definitions(alloc, trial.old.modules(), new, trial.drafts)?;
     let also = also_bound(alloc, &one, also, doubles.as_slice())?;
@@ -145,7 +157,11 @@ fn first_of(
     trial: Trial,
     found: Found,
     double: Option<Double>,
-) -> Result<Option<Why>, AllocError> {
+) -> Result<Option<Why>, AllocError>
+    ensures none { IfOk result (λ why. why ≡ None → first_rebound trial.entry.drafts.now trial.entry.map.now.pairs (bindings_of trial.entry.old.now) found.entry.new.now.modules found.entry.also.now.modules ≡ None) }
+    ensures single { IfOk result (λ why. why ≡ None → double ≡ None) }
+    ensures some { IfOk result (λ why. IfSome why IsEnding) }
+{
     let rebound = first_rebound(alloc, trial.drafts, trial.map, trial.old.bindings(), found)?;
     match (rebound, double) {
         (Some(rebound), _) => Ok(Some(rebinding(alloc, trial, rebound, found.new)?)),

@@ -1,4 +1,6 @@
 //! Whether the written texts were read as the drafts have them.
+ghost use Rattle.std.specs.Prelude.{◌≡◌, All, IfOk, true};
+ghost use Rattle.hr_finish.specs.Compared.{IsDraftRead, IsReadAs};
 
 use hr_blocks::blocks_of;
 use hr_draft::Draft;
@@ -12,7 +14,9 @@ pub fn are_read(
     old: &[Module],
     new: &[Module],
     drafts: &[Draft],
-) -> Result<bool, AllocError> {
+) -> Result<bool, AllocError>
+    ensures { IfOk result (λ read. read ≡ true → All (IsDraftRead old.now new.now) drafts.now) }
+{
     for draft in drafts {
         let (Some(before), Some(after)) = (old.get(draft.module), new.get(draft.module)) else {
             return Ok(false);
@@ -24,7 +28,9 @@ pub fn are_read(
     Ok(true)
 }
 
-fn is_read(alloc: Global, old: &Module, new: &Module, draft: &Draft) -> Result<bool, AllocError> {
+fn is_read(alloc: Global, old: &Module, new: &Module, draft: &Draft) -> Result<bool, AllocError>
+    ensures { IfOk result (λ read. read ≡ true → IsReadAs draft.now old.now new.now) }
+{
     let lexemes = draft.lexemes.as_slice();
     let before = items(alloc, old)?;
     let after = items(alloc, new)?;

@@ -1,4 +1,6 @@
 //! What refusals of a target show: places in the text before the step.
+ghost use Rattle.std.specs.Prelude.{IfOk};
+ghost use Rattle.hr_finish.specs.Endings.{IsEnding};
 
 use crate::doubles::Double;
 use crate::judging::Trial;
@@ -18,7 +20,9 @@ pub fn rebinding(
     trial: Trial,
     rebound: Rebound,
     new: &Bindings,
-) -> Result<Why, AllocError> {
+) -> Result<Why, AllocError>
+    ensures { IfOk result IsEnding }
+{
     let modules = trial.old.modules();
     let Some(before) = binder_at(trial.old.bindings(), rebound.old) else {
         return Err(AllocError);
@@ -35,7 +39,9 @@ pub fn rebinding(
 }
 
 /// The refusal for two lexemes of the target that declare one spelling.
-pub fn twice(alloc: Global, trial: Trial, double: Double) -> Result<Why, AllocError> {
+pub fn twice(alloc: Global, trial: Trial, double: Double) -> Result<Why, AllocError>
+    ensures { IfOk result IsEnding }
+{
     let modules = trial.old.modules();
     Ok(Why::WouldDeclareTwice {
         first: place_of(alloc, modules, origin_of(trial.drafts, double.first))?,

@@ -1,4 +1,6 @@
 //! Blocks of declarations and of alternatives, a piece a step.
+ghost use Rattle.std.specs.Prelude.{◌≡◌};
+ghost use Rattle.hr_parse_blocks.specs.Positions.{first_position};
 
 use crate::heads::{Found, declaration, position_behind, stated_by};
 use hr_layout::Cursor;
@@ -36,7 +38,9 @@ pub fn open_declarations(
     }
 }
 
-fn first_position(is_body: bool) -> Position {
+fn first_position(is_body: bool) -> Position
+    ensures { result ≡ first_position is_body }
+{
     if is_body {
         Position::First
     } else {

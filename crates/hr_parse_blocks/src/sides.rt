@@ -1,4 +1,6 @@
 //! Right sides: the Haskell 98 Report, sections 4.4.3 and 3.13.
+ghost use Rattle.std.specs.Prelude.{◌≡◌};
+ghost use Rattle.hr_grammar.specs.Spans.{part_ending};
 
 use hr_base::{Ending, Item};
 use hr_layout::Cursor;
@@ -132,7 +134,9 @@ fn behind_where(whole: Whole, word: Item, value: Held<Value>) -> Result<Step, St
 }
 
 /// How a part ends whose last body ends so, with guards or without.
-fn part_ending(guarded: bool, ending: Ending) -> Ending {
+fn part_ending(guarded: bool, ending: Ending) -> Ending
+    ensures { result ≡ part_ending guarded ending }
+{
     let where_free = true;
     match ending {
         Ending::Applied { .. } => Ending::Applied {

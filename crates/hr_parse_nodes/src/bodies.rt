@@ -1,4 +1,5 @@
 //! The parts that hold expressions: qualifiers, right sides, declarations and alternatives, with their heights.
+ghost use Rattle.std.specs.Prelude.{◌≡◌, None};
 
 use hr_base::{Ending, Item};
 use hr_parse_declaration::{Stated, state};
@@ -93,8 +94,11 @@ pub fn guarded(guards: Guards) -> Whole {
     }
 }
 
-pub fn side(whole: Whole, ending: Ending) -> Side {
-    let Whole { body, height } = whole;
+pub fn side(whole: Whole, ending: Ending) -> Side
+    ensures { result ≡ record { body = whole.body; locals = None; height = whole.height; ending = ending } }
+{
+    let height = whole.height;
+    let Whole { body, .. } = whole;
     Side {
         body,
         locals: None,

@@ -1,4 +1,5 @@
 //! Where an expression stands.
+ghost use Rattle.std.specs.Prelude.{◌≡◌, false};
 
 use hr_parse_pattern::below;
 
@@ -27,7 +28,9 @@ pub struct Place {
 }
 
 impl Place {
-    fn at(depth: u32, annotations: Annotations, has_section: bool) -> Place {
+    fn at(depth: u32, annotations: Annotations, has_section: bool) -> Place
+        ensures { result ≡ record { depth = depth; annotations = annotations; has_section = has_section; may_bind = false } }
+    {
         Place {
             depth,
             annotations,

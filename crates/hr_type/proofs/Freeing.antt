@@ -1,15 +1,13 @@
--- Sizes of types, and that freeing a type comes to an end.
-use Rattle.std.proofs.Common.{◌≡◌, ◌⊎◌, ◌<◌, ◌≤◌, ◌+◌, ◌*◌, ℕ, suc, zero, List, [], ◌∷◌, ◌++◌, map, length, set, slice_get, Option, Some, None, refl, sym, ap, ◌∙◌, subst, inl, inr, arith}
+-- Sizes of types, and that freeing a type comes to an end in as many steps as it has parts, three times at most.
+use Rattle.std.proofs.Common.{◌≡◌, ◌<◌, ◌≤◌, ◌+◌, ◌-◌, ◌*◌, ℕ, suc, List, [], ◌∷◌, ◌++◌, map, length, set, slice_get, Option, Some, None, refl, sym, ap, ◌∙◌, subst, arith}
 use Rattle.std.proofs.lemmas.List.{map-append}
-use Rattle.std.proofs.lemmas.Nat.{mul-le}
+use Rattle.std.specs.List.{AllByRecursion as Each}
 use Rattle.std.specs.Option.{IfSome}
 use Rattle.hr_base.specs.declared.bind.Entity.{Entity}
 use Rattle.hr_type.specs.declared.mono.Mono.{Mono}
 use Rattle.hr_type.specs.declared.mono.Mono.TheVariants.{Var, Con, Fun, outs-Var, outs-Con, outs-Fun}
-use Rattle.hr_type.specs.declared.mono.Mono.TheOpen.{Mono-F}
-use Rattle.hr_type.specs.declared.mono.Mono.TheViews.{out-Mono}
-use Rattle.hr_type.specs.Sizes.{size, held, layer_held, total, Falls}
-use Rattle.hr_type.proofs.Terms.{value-var, value-con, value-fun}
+use Rattle.hr_type.specs.Sizes.{size, lead, first_of, total, steps, steps_beside, layer_steps}
+use Rattle.hr_type.proofs.Terms.{every_type, value-var, value-con, value-fun}
 
 pub total-append : (ms ns : List ℕ) → total (ms ++ ns) ≡ total ms + total ns
 total-append [] ns = omega arith
@@ -28,81 +26,123 @@ module _ (t : Mono) where
   unfolding size
   size_fun a b h = ap size h ∙ value-fun _ _ _ _ a b
 
-  pub held_var : (n : ℕ) → t ≡ Var n → held t ≡ 0
-  unfolding held
-  held_var n h = ap held h ∙ ap (layer_held (size (Var n))) (outs-Var n)
+  pub lead_var : (n : ℕ) → t ≡ Var n → lead t ≡ 1
+  unfolding lead
+  lead_var n h = ap lead h ∙ value-var _ _ _ _ n
 
-  pub held_con : (e : Entity) (ts : List Mono) → t ≡ Con e ts → held t ≡ size t
-  unfolding held
-  held_con e ts h = ap held h ∙ ap (layer_held (size (Con e ts))) (outs-Con e ts) ∙ sym (ap size h)
+  pub lead_con : (e : Entity) (ts : List Mono) → t ≡ Con e ts → lead t ≡ suc (first_of (map lead ts))
+  unfolding lead
+  lead_con e ts h = ap lead h ∙ value-con _ _ _ _ e ts
 
-  pub held_fun : (a b : Mono) → t ≡ Fun a b → held t ≡ size t
-  unfolding held
-  held_fun a b h = ap held h ∙ ap (layer_held (size (Fun a b))) (outs-Fun a b) ∙ sym (ap size h)
+  pub lead_fun : (a b : Mono) → t ≡ Fun a b → lead t ≡ suc (lead a)
+  unfolding lead
+  lead_fun a b h = ap lead h ∙ value-fun _ _ _ _ a b
 
-layer_at_most : (n : ℕ) (x : Mono-F Mono) → layer_held n x ≤ n
-layer_at_most n (Mono-F.Var v) = omega arith
-layer_at_most n (Mono-F.Con e ts) = omega arith
-layer_at_most n (Mono-F.Fun a b) = omega arith
+first_within : (ts : List Mono) → Each (λ t. lead t ≤ size t) ts → first_of (map lead ts) ≤ total (map size ts)
+first_within [] all = omega arith
+first_within (t ∷ ts) all = omega (arith, all.0)
 
--- what hangs beside is no more than the type
-pub held_at_most : (t : Mono) → held t ≤ size t
-unfolding held
-held_at_most t = layer_at_most (size t) (out-Mono t)
+-- what leads down from a type is inside it
+pub lead_within : (t : Mono) → lead t ≤ size t
+lead_within =
+    every_type (λ t. lead t ≤ size t)
+    (λ n. omega (arith, lead_var (Var n) n refl, size_var (Var n) n refl))
+    (λ e ts all. omega (arith, lead_con (Con e ts) e ts refl, size_con (Con e ts) e ts refl, first_within ts all))
+    (λ a b p q. omega (arith, lead_fun (Fun a b) a b refl, size_fun (Fun a b) a b refl, p))
+
+-- ---- the steps that are left
+beside_is : (ty rest : Mono) → steps_beside ty rest ≡ 3 * (size ty + size rest) - suc (lead rest)
+unfolding steps_beside
+beside_is ty rest = refl
+
+module _ (ty rest : Mono) where
+  pub steps_var : (n : ℕ) → rest ≡ Var n → steps ty rest ≡ 3 * size ty - lead ty
+  unfolding steps
+  steps_var n h = ap (steps ty) h ∙ ap (layer_steps ty (Var n)) (outs-Var n)
+
+  pub steps_con : (e : Entity) (ts : List Mono) → rest ≡ Con e ts → steps ty rest ≡ steps_beside ty rest
+  unfolding steps
+  steps_con e ts h = ap (steps ty) h ∙ ap (layer_steps ty (Con e ts)) (outs-Con e ts) ∙ ap (steps_beside ty) (sym h)
+
+  pub steps_fun : (a b : Mono) → rest ≡ Fun a b → steps ty rest ≡ steps_beside ty rest
+  unfolding steps
+  steps_fun a b h = ap (steps ty) h ∙ ap (layer_steps ty (Fun a b)) (outs-Fun a b) ∙ ap (steps_beside ty) (sym h)
+
+-- a variable beside a type takes no step
+steps_at_most : (ty rest : Mono) → steps ty rest ≤ 3 * (size ty + size rest) - suc (lead rest)
+steps_at_most ty =
+    every_type (λ rest. steps ty rest ≤ 3 * (size ty + size rest) - suc (lead rest))
+    (λ n. omega (arith, steps_var ty (Var n) n refl, size_var (Var n) n refl, lead_var (Var n) n refl))
+    (λ e ts _. omega (arith, steps_con ty (Con e ts) e ts refl ∙ beside_is ty (Con e ts)))
+    (λ a b _ _. omega (arith, steps_fun ty (Fun a b) a b refl ∙ beside_is ty (Fun a b)))
 
 pub if_some : {X : Type 0} (o : Option X) (P Q : X → Type 0) → ((x : X) → P x → Q x) → IfSome o P → IfSome o Q
 if_some None P Q f h = tt
 if_some (Some x) P Q f h = f x h
 
--- the loop's measure, whose first part is a square
-pub falls_square : (a b c d : ℕ) → Falls a b c d → (a + b) * (a + b) + a < (c + d) * (c + d) + c
-falls_square a b c d (inl h) = let k : (a + b) * (a + b) ≤ (c + d) * (c + d) = mul-le (a + b) (a + b) (c + d) (c + d) h.0 h.0 in add_up ((a + b) * (a + b)) ((c + d) * (c + d)) k h.1
-  where
-    add_up : (m n : ℕ) → m ≤ n → a < c → m + a < n + c
-    add_up m n k l = omega arith
-falls_square a b c d (inr h) = next (a + b) (c + d) h (omega arith)
-  where
-    wide : (m : ℕ) → suc m * suc m ≡ m * m + m + m + 1
-    wide m = grind arith
+pub steps_as : (m : ℕ) (t rest other ty : Mono) → m < steps t rest → ty ≡ t → other ≡ rest → m < steps ty other
+steps_as m t rest other ty h p q = subst (λ x. m < steps x other) (sym p) (subst (λ x. m < steps t x) (sym q) h)
 
-    add_up : (m s n : ℕ) → m + (a + b) + (a + b) + 1 ≡ s → s ≤ n → m + a < n + c
-    add_up m s n e l = omega arith
+pub beside_as : (m : ℕ) (t rest other ty : Mono) → m < steps_beside t rest → ty ≡ t → other ≡ rest → steps ty other ≡ steps_beside ty other → m < steps ty other
+beside_as m t rest other ty h p q is = subst (λ n. m < n) (sym is) (subst (λ x. m < steps_beside x other) (sym p) (subst (λ x. m < steps_beside t x) (sym q) h))
 
-    next : (m n : ℕ) → m < n → m ≡ a + b → m * m + a < n * n + c
-    next m n l e = add_up (m * m) (suc m * suc m) (n * n) (subst (λ k. m * m + k + k + 1 ≡ suc m * suc m) e (sym (wide m))) (mul-le (suc m) (suc m) n n (omega arith) (omega arith))
+-- what hangs beside a variable is next
+pub turned_steps : (t rest v : Mono) (m : ℕ) → rest ≡ t → v ≡ Var m → ((n : ℕ) → steps (Var n) rest ≡ steps_beside (Var n) rest) → (n : ℕ) → steps t v < steps (Var n) rest
+turned_steps t rest v m h k is n = omega (arith, steps_var t v m k, is n ∙ beside_is (Var n) rest, size_var (Var n) n refl, ap size h, ap lead h, lead_within t)
 
-pub falls_as : (a b c d x y : ℕ) → Falls a b c d → c ≡ x → d ≡ y → Falls a b x y
-falls_as a b c d x y h p q = subst (λ n. Falls a b n y) p (subst (λ n. Falls a b c n) q h)
+-- ---- the last argument of a constructor, beside what is left of the others
+whole_size : (e : Entity) (ts : List Mono) (last : Mono) → size (Con e (ts ++ last ∷ [])) ≡ suc (total (map size ts) + (size last + 0))
+whole_size e ts last = size_con _ e (ts ++ last ∷ []) refl ∙ ap suc (ap total (map-append size ts (last ∷ [])) ∙ total-append (map size ts) (size last ∷ []))
 
--- the last argument of a constructor, beside the others
-pub last_falls : (e : Entity) (ts init : List Mono) (last : Mono) → ts ≡ init ++ last ∷ [] → Falls (size last) (held (Con e init)) (size (Con e ts)) 0
-last_falls e ts init last h =
-    let whole : size (Con e ts) ≡ suc (total (map size init) + (size last + 0)) = size_con _ e ts refl ∙ ap (λ xs. suc (total (map size xs))) h ∙ ap suc (ap total (map-append size init (last ∷ [])) ∙ total-append (map size init) (size last ∷ [])) in
-    let other : held (Con e init) ≡ suc (total (map size init)) = held_con _ e init refl ∙ size_con _ e init refl in
-    inl (omega arith, omega arith)
+first_at_most : (ts : List Mono) (last : Mono) → first_of (map lead (ts ++ last ∷ [])) ≤ total (map size ts) + lead last
+first_at_most [] last = omega arith
+first_at_most (t ∷ ts) last = omega (arith, lead_within t)
 
--- what hung in the first place of some arguments
-pub first_falls : (e : Entity) (ts us : List Mono) (first rest : Mono) → slice_get ts 0 ≡ Some first → us ≡ set ts 0 rest → Falls (size first) (held (Con e us)) (size (Con e ts)) (size rest)
-first_falls e [] us first rest g h = absurd (cc)
-first_falls e (t ∷ ts) us first rest g h =
+pub none_left : (e : Entity) (ts : List Mono) (v : Mono) (m : ℕ) → v ≡ Var m → (last : Mono) (n : ℕ) → steps last v < steps (Con e (ts ++ last ∷ [])) (Var n)
+none_left e ts v m h last n =
+    omega (arith, steps_var last v m h, steps_var (Con e (ts ++ last ∷ [])) (Var n) n refl, whole_size e ts last, lead_con _ e (ts ++ last ∷ []) refl, first_at_most ts last, lead_within last)
+
+pub some_left : (e : Entity) (ts : List Mono) → (length ts ≡ 0 → ⊥) → (last : Mono) (n : ℕ) → steps last (Con e ts) < steps (Con e (ts ++ last ∷ [])) (Var n)
+some_left e [] h last n = absurd (h refl)
+some_left e (t ∷ ts) h last n =
+    omega (
+      arith,
+      steps_con last (Con e (t ∷ ts)) e (t ∷ ts) refl ∙ beside_is last (Con e (t ∷ ts)),
+      steps_var (Con e (t ∷ ts ++ last ∷ [])) (Var n) n refl,
+      whole_size e (t ∷ ts) last,
+      size_con _ e (t ∷ ts) refl,
+      lead_con _ e (t ∷ ts) refl,
+      lead_con _ e (t ∷ ts ++ last ∷ []) refl,
+      lead_within t,
+    )
+
+pub last_steps : (e : Entity) (ts init : List Mono) (last others : Mono) → ts ≡ init ++ last ∷ [] → ((ty : Mono) (n : ℕ) → steps ty others < steps (Con e (init ++ ty ∷ [])) (Var n))
+    → (n : ℕ) → steps last others < steps (Con e ts) (Var n)
+last_steps e ts init last others h k n = subst (λ us. steps last others < steps (Con e us) (Var n)) (sym h) (k last n)
+
+-- ---- what hung in the first place of some arguments
+pub first_steps : (e : Entity) (ts us : List Mono) (first rest : Mono) → slice_get ts 0 ≡ Some first → us ≡ set ts 0 rest → steps first (Con e us) < steps_beside (Con e ts) rest
+first_steps e [] us first rest g h = absurd (cc)
+first_steps e (t ∷ ts) us first rest g h =
     let here : t ≡ first = cc in
-    let same : size t ≡ size first = ap size here in
-    let whole : size (Con e (t ∷ ts)) ≡ suc (size t + total (map size ts)) = size_con _ e (t ∷ ts) refl in
-    let other : held (Con e us) ≡ suc (size rest + total (map size ts)) = held_con _ e us refl ∙ size_con _ e us refl ∙ ap (λ xs. suc (total (map size xs))) h in
-    inl (omega arith, omega arith)
+    omega (
+      arith,
+      steps_con first (Con e us) e us refl ∙ beside_is first (Con e us),
+      beside_is (Con e (t ∷ ts)) rest,
+      size_con _ e (t ∷ ts) refl,
+      size_con _ e us refl ∙ ap (λ xs. suc (total (map size xs))) h,
+      lead_con _ e us refl ∙ ap (λ xs. suc (first_of (map lead xs))) h,
+      ap size here,
+      lead_within rest,
+    )
+
+pub closed_steps : (e : Entity) (ts : List Mono) (rest v : Mono) (n : ℕ) → v ≡ Var n → steps rest v < steps_beside (Con e ts) rest
+closed_steps e ts rest v n h = omega (arith, steps_var rest v n h, beside_is (Con e ts) rest, size_con _ e ts refl, lead_within rest)
 
 -- the same of a function's argument
-pub from_falls : (a b rest : Mono) → Falls (size a) (held (Fun rest b)) (size (Fun a b)) (size rest)
-from_falls a b rest =
-    let whole : size (Fun a b) ≡ suc (size a + size b) = size_fun _ a b refl in
-    let other : held (Fun rest b) ≡ suc (size rest + size b) = held_fun _ rest b refl ∙ size_fun _ rest b refl in
-    inl (omega arith, omega arith)
+pub from_steps : (a b rest : Mono) → steps a (Fun rest b) < steps_beside (Fun a b) rest
+from_steps a b rest =
+    omega (arith, steps_fun a (Fun rest b) rest b refl ∙ beside_is a (Fun rest b), beside_is (Fun a b) rest, size_fun _ a b refl, size_fun _ rest b refl, lead_fun _ rest b refl, lead_within rest)
 
-pub closed_falls : (e : Entity) (ts : List Mono) (rest v : Mono) (n : ℕ) → v ≡ Var n → Falls (size rest) (held v) (size (Con e ts)) (size rest)
-closed_falls e ts rest v n h = inr (omega (arith, held_var v n h, size_con _ e ts refl))
-
-pub both_fall : (a b t v : Mono) (n : ℕ) → t ≡ Fun a b → v ≡ Var n → Falls (size b) (held a) (size t) (held v)
-both_fall a b t v n h k = inr (omega (arith, held_at_most a, held_var v n k, size_fun t a b h))
-
-pub turned_falls : (t rest : Mono) (n : ℕ) (r : Mono × Mono) → t ≡ Var n → (r.0 ≡ rest) × (held r.1 ≡ 0) × (held rest ≡ size rest) → Falls (size r.0) (held r.1) (size t) (held rest)
-turned_falls t rest n r h k = inr (omega (arith, ap size k.0, k.1, k.2, size_var t n h))
+pub both_steps : (a b t v : Mono) (n : ℕ) → t ≡ Fun a b → v ≡ Var n → steps b a < steps t v
+both_steps a b t v n h k = omega (arith, steps_at_most b a, steps_var t v n k, size_fun t a b h, lead_fun t a b h, lead_within a)

@@ -1,7 +1,7 @@
 -- Types layer by layer: what is computed along a type is computed from its head and its parts.
-use Rattle.std.proofs.Common.{◌≡◌, ◌≤◌, ◌<◌, ◌+◌, ◌-◌, ℕ, suc, zero, Bool, true, false, ◌&&◌, List, [], ◌∷◌, ◌++◌, map, length, take, drop, reverse, refl, sym, ap, ◌∙◌, subst, append_assoc, append-nil, arith, max, min, ◌↔◌}
+use Rattle.std.proofs.Common.{◌≡◌, ◌<◌, ◌+◌, ◌-◌, ℕ, suc, Bool, true, false, ◌&&◌, List, [], ◌∷◌, ◌++◌, map, length, take, drop, reverse, refl, sym, ap, ◌∙◌, subst, append_assoc, append-nil, arith, max}
 use Rattle.std.specs.List.{AllByRecursion as Each, list_all}
-use Rattle.std.proofs.lemmas.List.{map-append, length-append, length-map, same_from_push}
+use Rattle.std.proofs.lemmas.List.{map-append, length-append, length-map}
 use Rattle.std.proofs.lemmas.List.Folds.{list_all-append}
 use Rattle.std.proofs.Math.Seq.{take-append_seam, drop-append_seam}
 use Rattle.hr_base.specs.declared.bind.Entity.{Entity}
@@ -10,7 +10,7 @@ use Rattle.hr_type.specs.declared.mono.Mono.TheVariants.{Var, Con, Fun, outs-Var
 use Rattle.hr_type.specs.declared.mono.Mono.TheOpen.{Mono-F}
 use Rattle.hr_type.specs.declared.spell.TypeScope.{TypeScope}
 use Rattle.hr_type.specs.Heads.{Head, variable_head, head, arrow_head, layer_head, head_of, layer_parts, parts, joined, last_function, posts, placed, built}
-use Rattle.hr_type.specs.Sizes.{size, depth, total, greatest, reach}
+use Rattle.hr_type.specs.Sizes.{size, depth, total, greatest}
 use Rattle.hr_type.specs.Spelling.{brackets_of, fits_arity, has_arities, has_arity, layer_arity, is_spellable, has_spelling, layer_spelling}
 use Rattle.hr_type.proofs.Terms.{every_type, value-var, value-con, value-fun}
 use Rattle.hr_type.proofs.Freeing.{total-append, size_var, size_con, size_fun}

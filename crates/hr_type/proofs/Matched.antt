@@ -1,18 +1,17 @@
 -- Matching a scheme's body with a type, layer by layer.
-use Rattle.std.proofs.Common.{◌≡◌, ◌↔◌, ℕ, suc, IsTrue, Bool, true, false, List, [], ◌∷◌, ◌++◌, ◌+◌, map, length, Result, Ok, Err, IfOk, refl, sym, ap, ◌∙◌, subst, arith, Some, None, Option, if◌then◌else◌, cond, eqb, ◌⊎◌, ◌≢◌, inl, inr}
+use Rattle.std.proofs.Common.{◌≡◌, ◌↔◌, ℕ, suc, IsTrue, Bool, true, false, List, [], ◌∷◌, ◌++◌, ◌+◌, map, length, refl, sym, ap, ◌∙◌, subst, arith, Some, None, cond, eqb, ◌⊎◌, ◌≢◌, inl, inr}
 use Rattle.std.proofs.lemmas.Bool.{false≢true, eq-eqb}
 use Rattle.std.proofs.lemmas.Bool.Decides.{eqb_tells}
 use Rattle.std.proofs.lemmas.List.{map-append, length-map, same_from_push, length-append}
 use Rattle.std.specs.Map.{lookup}
 use Rattle.indexmap.specs.IndexMap.{insert_entry}
-use Rattle.hr_base.specs.declared.bind.Entity.{Entity}
 use Rattle.hr_type.specs.declared.mono.Mono.{Mono}
 use Rattle.hr_type.specs.declared.mono.Mono.TheVariants.{Var, Con, Fun}
-use Rattle.hr_type.specs.Heads.{Head, variable_head, head, arrow_head, head_of, parts}
+use Rattle.hr_type.specs.Heads.{head, head_of, parts}
 use Rattle.hr_type.specs.Types.{bounded, first_for, replaced}
-use Rattle.hr_type.specs.Matching.{Pairs, Fits, Narrows, Settles}
+use Rattle.hr_type.specs.Matching.{Pairs, Fits, Narrows}
 use Rattle.hr_type.proofs.Terms.{value-var, value-con, value-fun}
-use Rattle.hr_type.proofs.Layers.{by_kind, head_var, head_con, head_fun, parts_con, parts_fun, same_width, same_layer}
+use Rattle.hr_type.proofs.Layers.{by_kind, head_con, head_fun, parts_con, parts_fun, same_width, same_layer}
 use Rattle.hr_type.proofs.Reading.{cut}
 
 abbrev pub IsApplied : Mono → Type 0

@@ -1,5 +1,5 @@
 -- What the code learns of types: their heads, their parts, and stacks of them.
-use Rattle.std.proofs.Common.{◌≡◌, ◌≢◌, ◌↔◌, ◌⊎◌, ◌<◌, ◌≤◌, ◌+◌, ◌-◌, ℕ, suc, IsTrue, Bool, true, false, eqb, cond, List, [], ◌∷◌, ◌++◌, map, length, take, drop, get_or, reverse, Option, Some, None, Result, Ok, Err, IfOk, OnOk, refl, sym, ap, ◌∙◌, subst, append_assoc, append-nil, arith, max, min, add-one, inl, inr}
+use Rattle.std.proofs.Common.{◌≡◌, ◌≢◌, ◌↔◌, ◌⊎◌, ◌<◌, ◌+◌, ◌-◌, ℕ, suc, IsTrue, Bool, true, false, eqb, List, [], ◌∷◌, ◌++◌, map, length, take, drop, get_or, reverse, Result, Ok, Err, IfOk, OnOk, sym, ap, ◌∙◌, append-nil, arith, max, min, inl, inr}
 use Rattle.std.proofs.lemmas.Bool.{false≢true, eq-eqb}
 use Rattle.std.proofs.lemmas.Bool.Decides.{eqb_tells}
 use Rattle.std.proofs.lemmas.List.{map-append, same_from_push, take_more, length-append, reverse-append}
@@ -8,7 +8,7 @@ use Rattle.hr_base.specs.declared.bind.Entity.{Entity}
 use Rattle.hr_type.specs.declared.mono.Mono.{Mono}
 use Rattle.hr_type.specs.declared.mono.Mono.TheVariants.{Var, Con, Fun}
 use Rattle.hr_type.specs.declared.measure.Inner.{Inner}
-use Rattle.hr_type.specs.Heads.{Head, variable_head, head, arrow_head, head_of, last_function, parts, placed}
+use Rattle.hr_type.specs.Heads.{variable_head, head, arrow_head, head_of, last_function, parts, placed}
 use Rattle.hr_type.specs.Inside.{deepest_of, spread}
 use Rattle.hr_type.specs.Sizes.{size, depth, total, greatest, reach}
 use Rattle.hr_type.proofs.Freeing.{total-append}

@@ -1,7 +1,5 @@
 -- How types are written, kind by kind, and the bytes of several pieces.
-use Rattle.std.proofs.Common.{◌≡◌, ◌==◌, ◌&&◌, Bool, if◌then◌else◌, ℕ, List, [], ◌∷◌, ◌++◌, map, Some, None, slice_get, Result, Ok, Err, OnOk, nat_lt, codes, length, drop, get_or, ◌<◌, ◌+◌, suc, true, false, cond, refl, ap, ◌∙◌, append_assoc, append-nil, sym, drop-cons, add-one, arith, inl, inr}
-use Rattle.std.proofs.lemmas.Bool.{eq-eqb}
-use Rattle.std.proofs.lemmas.Bool.Decides.{eqb_tells}
+use Rattle.std.proofs.Common.{◌≡◌, ℕ, List, [], ◌∷◌, ◌++◌, map, Some, None, slice_get, refl, ap, ◌∙◌, append_assoc, sym}
 use Rattle.hr_base.specs.declared.bind.Entity.{Entity}
 use Rattle.hr_type.specs.declared.mono.Mono.{Mono}
 use Rattle.hr_type.specs.declared.mono.Mono.TheVariants.{Var, Con, Fun}

@@ -1,5 +1,5 @@
 -- How large a type is, and how deep.
-use Rattle.std.specs.Prelude.{◌+◌, ◌<◌, ◌≤◌, ◌⊎◌, ℕ, suc, List, [], ◌∷◌, max}
+use Rattle.std.specs.Prelude.{◌+◌, ◌-◌, ◌*◌, ℕ, suc, List, [], ◌∷◌, max}
 use Rattle.hr_type.specs.declared.mono.Mono.{Mono}
 use Rattle.hr_type.specs.declared.mono.Mono.TheOpen.{Mono-F}
 use Rattle.hr_type.specs.declared.mono.Mono.TheViews.{out-Mono}
@@ -26,16 +26,24 @@ abbrev pub reach : ℕ → List Mono → ℕ
 reach above [] = 0
 reach above (t ∷ ts) = max (above + depth t) (reach above ts)
 
--- The work that is left of freeing a type, with what hangs beside it: a variable there is nothing.
-abbrev pub layer_held : ℕ → Mono-F Mono → ℕ
-layer_held n (Mono-F.Var v) = 0
-layer_held n (Mono-F.Con e ts) = n
-layer_held n (Mono-F.Fun a b) = n
+abbrev pub first_of : List ℕ → ℕ
+first_of [] = 0
+first_of (n ∷ ns) = n
 
-unfoldable pub held : Mono → ℕ
-held t = layer_held (size t) (out-Mono t)
+-- how many layers stand in one another, each as the first part of the one round it
+unfoldable pub lead : Mono → ℕ
+lead = value ℕ (λ _ ns. suc (first_of ns)) (λ m n. suc m) (λ _. 1)
 
--- What is left of freeing falls from c and d to a and b: together they are no more and the first is less, or together
--- they are less.
-abbrev pub Falls : ℕ → ℕ → ℕ → ℕ → Type 0
-Falls a b c d = ((a + b ≤ c + d) × (a < c)) ⊎ (a + b < c + d)
+-- The steps that freeing a type takes at most, where another one hangs beside it: each layer is taken apart, passed on
+-- the way back and hung into once, but for those that lead down from what hangs beside, since they are hung into already.
+unfoldable pub steps_beside : Mono → Mono → ℕ
+steps_beside ty rest = 3 * (size ty + size rest) - suc (lead rest)
+
+-- the same where a variable beside it is nothing
+abbrev pub layer_steps : Mono → Mono → Mono-F Mono → ℕ
+layer_steps ty rest (Mono-F.Var v) = 3 * size ty - lead ty
+layer_steps ty rest (Mono-F.Con e ts) = steps_beside ty rest
+layer_steps ty rest (Mono-F.Fun a b) = steps_beside ty rest
+
+unfoldable pub steps : Mono → Mono → ℕ
+steps ty rest = layer_steps ty rest (out-Mono rest)

@@ -1,8 +1,9 @@
-ghost use Rattle.std.specs.Prelude.{◌≡◌, ◌↔◌, IfOk, IsTrue};
+ghost use Rattle.std.specs.Prelude.{◌≡◌, ◌↔◌, ◌<◌, ◌++◌, ◌∷◌, [], ℕ, IfOk, IsTrue};
 ghost use Rattle.std.specs.Option.{IfSome};
 ghost use Rattle.hr_type.specs.Types.{same_entity};
-ghost use Rattle.hr_type.specs.Sizes.{size, held, Falls};
-ghost use Rattle.hr_type.specs.declared.mono.Mono.TheVariants.{Con, Fun};
+ghost use Rattle.hr_type.specs.Sizes.{steps, steps_beside};
+ghost use Rattle.hr_type.specs.declared.mono.Mono.{Mono};
+ghost use Rattle.hr_type.specs.declared.mono.Mono.TheVariants.{Con, Fun, Var};
 
 use hr_base::Entity;
 use hr_items::{Boxed, Items};
@@ -26,7 +27,7 @@ pub struct Scheme {
 
 impl Drop for Mono {
     /// Frees a type by a loop and without memory: what is still to be freed hangs in the places that
-    /// are free already.
+    /// are free already. It takes at most three steps for each variable, constructor and arrow.
     fn drop(self) {
         let mut ty = self;
         let mut rest = Mono::Var(0);
@@ -42,7 +43,7 @@ impl Mono {
     /// is left then. A variable as `rest` is nothing. A place that `rest` hangs in is come to once
     /// the others of its layer are free, so a layer is come to once for each of its parts.
     fn taken_apart(ty: Mono, rest: Mono) -> Option<(Mono, Mono)>
-        ensures { IfSome result (λ r. Falls (size r.0) (held r.1) (size ty) (held rest)) }
+        ensures { IfSome result (λ r. steps r.0 r.1 < steps ty rest) }
     {
         match ty {
             Mono::Var(_) => Mono::turned(rest),
@@ -68,7 +69,7 @@ impl Mono {
     }
 
     fn turned(rest: Mono) -> Option<(Mono, Mono)>
-        ensures { IfSome result (λ r. (r.0 ≡ rest) × (held r.1 ≡ 0) × (held rest ≡ size rest)) }
+        ensures { IfSome result (λ r. (n : ℕ) → steps r.0 r.1 < steps (Var n) rest) }
     {
         match rest {
             Mono::Var(_) => None,
@@ -78,7 +79,7 @@ impl Mono {
     }
 
     fn last_argument(entity: Entity, arguments: Items<Mono>) -> Option<(Mono, Mono)>
-        ensures { IfSome result (λ r. Falls (size r.0) (held r.1) (size (Con entity arguments)) 0) }
+        ensures { IfSome result (λ r. (n : ℕ) → steps r.0 r.1 < steps (Con entity arguments) (Var n)) }
     {
         let mut arguments = arguments;
         match arguments.pop() {
@@ -86,12 +87,23 @@ impl Mono {
                 arguments.close();
                 None
             }
-            Some(last) => Some((last, Mono::Con(entity, arguments))),
+            Some(last) => Some((last, Mono::with_others(entity, arguments))),
         }
     }
 
+    /// A constructor with the arguments that are left, or nothing where none is.
+    fn with_others(entity: Entity, arguments: Items<Mono>) -> Mono
+        ensures { (last : Mono) (n : ℕ) → steps last result < steps (Con entity (arguments ++ last ∷ [])) (Var n) }
+    {
+        if arguments.len() == 0 {
+            arguments.close();
+            return Mono::Var(0);
+        }
+        Mono::Con(entity, arguments)
+    }
+
     fn hung_in_arguments(entity: Entity, arguments: Items<Mono>, rest: Mono) -> Option<(Mono, Mono)>
-        ensures { IfSome result (λ r. Falls (size r.0) (held r.1) (size (Con entity arguments)) (size rest)) }
+        ensures { IfSome result (λ r. steps r.0 r.1 < steps_beside (Con entity arguments) rest) }
     {
         let mut arguments = arguments;
         if arguments.len() == 0 {
@@ -103,7 +115,7 @@ impl Mono {
     }
 
     fn hung_in_function(from: Boxed<Mono>, to: Boxed<Mono>, rest: Mono) -> (Mono, Mono)
-        ensures { Falls (size result.0) (held result.1) (size (Fun from to)) (size rest) }
+        ensures { steps result.0 result.1 < steps_beside (Fun from to) rest }
     {
         let mut from = from;
         let first = from.exchange(rest);

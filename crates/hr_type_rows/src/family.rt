@@ -1,7 +1,9 @@
-ghost use Rattle.std.specs.Prelude.{◌≤◌};
+ghost use Rattle.std.specs.Prelude.{◌≤◌, IfOk};
+ghost use Rattle.hr_unify.specs.Unifiers.{IsGood};
 
 use crate::notation::number_of;
-use crate::solved::refusal;
+use crate::shown::type_text;
+use crate::solved::{LIMIT, refusal};
 use hr_base::{Entity, Space, Text};
 use hr_items::Items;
 use hr_type::Mono;
@@ -32,16 +34,25 @@ pub fn elements(alloc: Global, count: &[u8]) -> Result<Option<String>, AllocErro
     Ok(Some(format!(in alloc; "{bound} are 0, {others} are not")?))
 }
 
+fn prelude_entity(alloc: Global, text: &[u8]) -> Result<Entity, AllocError> {
+    Ok(Entity {
+        module: Text::from_slice(alloc, b"Prelude")?,
+        space: Space::TypeName,
+        text: Text::from_slice(alloc, text)?,
+    })
+}
+
 fn pair(alloc: Global, variable: u32) -> Result<Mono, AllocError> {
     let mut parts = Items::new(alloc);
     parts.push(Mono::Var(variable))?;
     parts.push(Mono::Var(variable))?;
-    let entity = Entity {
-        module: Text::from_slice(alloc, b"Prelude")?,
-        space: Space::TypeName,
-        text: Text::from_slice(alloc, b"(,)")?,
-    };
-    Ok(Mono::Con(entity, parts))
+    Ok(Mono::Con(prelude_entity(alloc, b"(,)")?, parts))
+}
+
+fn list(alloc: Global, variable: u32) -> Result<Mono, AllocError> {
+    let mut parts = Items::new(alloc);
+    parts.push(Mono::Var(variable))?;
+    Ok(Mono::Con(prelude_entity(alloc, b"[]")?, parts))
 }
 
 /// Variables of two families, even and odd, each a pair of the one before in its family: the last
@@ -73,4 +84,42 @@ fn doubled(alloc: Global, count: u32) -> Result<usize, UnifyError>
     let bound = solver.bindings.len();
     solver.unify(alloc, &Mono::Var(0), &Mono::Var(1))?;
     Ok(bound)
+}
+
+/// Variables 0 to `count`, each made equal to a list of the next one and the last to `()`: how many
+/// have a type then, and the first one's, written out.
+pub fn chain(alloc: Global, count: &[u8]) -> Result<Option<String>, AllocError> {
+    let Some(count) = number_of(count) else {
+        return Ok(None);
+    };
+    if count > 1_000_000 {
+        return Ok(None);
+    }
+    match chained(alloc, count) {
+        Ok(solver) => {
+            let bound = solver.bindings.len();
+            let first = solver.resolved(alloc, LIMIT, &Mono::Var(0))?;
+            let text = type_text(alloc, &first)?;
+            Ok(Some(format!(in alloc; "{bound} bindings: {text}")?))
+        }
+        Err(error) => Ok(Some(refusal(alloc, error)?)),
+    }
+}
+
+fn chained(alloc: Global, count: u32) -> Result<Solver, UnifyError>
+    requires { count ≤ 1000000 }
+    ensures { IfOk result (λ solver. IsGood solver.bindings.entries) }
+{
+    let mut solver = Solver::new(alloc);
+    for step in 0..count {
+        let next = list(alloc, step + 1).map_err(UnifyError::Memory)?;
+        solver.unify(alloc, &Mono::Var(step), &next)?;
+    }
+    let unit = prelude_entity(alloc, b"()").map_err(UnifyError::Memory)?;
+    solver.unify(
+        alloc,
+        &Mono::Var(count),
+        &Mono::Con(unit, Items::new(alloc)),
+    )?;
+    Ok(solver)
 }

@@ -7,6 +7,7 @@
 //!     unify ;; TYPE ;; TYPE ;; ..   each two made equal, one after another: the types of the variables, or the refusal
 //!     elements ;; N                 the types of a list's N elements made equal to its own, one after another
 //!     doubling ;; N                 two families of variables, each a pair of the one before, made equal
+//!     chain ;; N                    each of N variables made equal to a list of the next one, and the first one's type
 //!
 //! A type is written behind its parts: a number is a variable, `->` takes the two types before it, and `Name/3`
 //! the three before it; `[]`, `(,)` and `()` are those of the Prelude.
@@ -92,6 +93,7 @@ fn said(alloc: Global, fields: &[Vec<u8>]) -> Result<Option<String>, AllocError>
                 b"print" => printed(alloc, one),
                 b"elements" => family::elements(alloc, one),
                 b"doubling" => family::doubling(alloc, one),
+                b"chain" => family::chain(alloc, one),
                 _ => Ok(None),
             }
         }

@@ -7,7 +7,7 @@ use hr_unify::{Solver, UnifyError};
 use std::alloc::{AllocError, Global};
 
 /// The size above which a type is not written out.
-const LIMIT: usize = 1_000_000;
+pub const LIMIT: usize = 1_000_000;
 
 /// Each two of the types made equal, one after another: then the variables 0 to 9 that have a type,
 /// with their types written out; or the refusal.

@@ -25,4 +25,4 @@ loop-change-preserved g c =
     let is : c.as_str.result.now ≡ get_or (map string_bytes c.args.names.now) c.in-Some.change.file [] =
     c.as_str.ensures.value ∙ named string_bytes c.args.names.now c.in-Some.change.file c.index-names-file.result within c.index-names-file.is in
     let puts = rw (is, c.bytes.view_is) at c.in-Ok.ensures.puts in
-    replace_more _ _ _ _ _ _ c.in-Some.change _ left puts c.in-Ok.ensures.stays_ready c.in-Ok.ensures.kept c.in-Ok.ensures.other_count
+    replace_more _ _ _ _ _ _ c.in-Some.change _ left puts c.in-Ok.ensures.stays_ready c.in-Ok.ensures.kept c.in-Ok.ensures.other_count c.in-Ok.ensures.counted

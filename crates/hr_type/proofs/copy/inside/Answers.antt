@@ -1,4 +1,4 @@
-use Rattle.std.proofs.Common.{◌≡◌, ◌++◌, map, reverse, ap, ◌∙◌, append-nil, refl}
+use Rattle.std.proofs.Common.{◌++◌, map, ap, ◌∙◌}
 use Rattle.hr_type.specs.Heads.{head_of, joined, posts}
 use Rattle.hr_type.proofs.Layers.{smaller, posts_more}
 use Rattle.hr_type.proofs.Reading.{popped, turned_popped}

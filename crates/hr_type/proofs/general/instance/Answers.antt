@@ -1,4 +1,4 @@
-use Rattle.std.proofs.Common.{◌≡◌, [], eqb, map, ap, sym, ◌∙◌, refl, rules}
+use Rattle.std.proofs.Common.{◌≡◌, [], eqb, map, ap, sym, ◌∙◌, rules}
 use Rattle.std.proofs.lemmas.Bool.{false≢true}
 use Rattle.hr_type.specs.Types.{bounded}
 use Rattle.hr_type.proofs.Layers.{smaller}

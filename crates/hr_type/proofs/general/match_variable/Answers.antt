@@ -1,4 +1,4 @@
-use Rattle.std.proofs.Common.{◌≡◌, Some, None, ap, sym, subst, ◌∙◌}
+use Rattle.std.proofs.Common.{◌≡◌, Some, None, sym, subst, ◌∙◌}
 use Rattle.hr_type.specs.Types.{bounded, first_for}
 use Rattle.hr_type.specs.Matching.{Narrows}
 use Rattle.hr_type.proofs.Choices.{settled_equal, narrows_choice, fits_first, bounded_below}

@@ -1,4 +1,3 @@
-use Rattle.std.proofs.Common.{sym, ◌∙◌, refl}
 use Rattle.hr_type.proofs.Reading.{never, variables_tell, con_var_differ, con_fun_differ, constructors_tell, constructors_fail, functions_tell}
 use Rattle.hr_type.proofs.parts.have_same_head.Goals as goal
 

@@ -1,6 +1,5 @@
-use Rattle.std.proofs.Common.{refl, sym, ◌∙◌}
+use Rattle.std.proofs.Common.{refl}
 use Rattle.hr_type.proofs.Reading.{never, is_fun, con_fun_differ}
-use Rattle.hr_type.proofs.Layers.{head_fun}
 use Rattle.hr_type.proofs.Reading as reading
 use Rattle.hr_type.proofs.parts.is_function.Goals as goal
 

@@ -1,6 +1,5 @@
-use Rattle.std.proofs.Common.{◌+◌, ◌++◌, ap, sym, ◌∙◌, subst, arith}
-use Rattle.hr_type.specs.Jobs.{load, pending}
-use Rattle.hr_type.proofs.Jobbing.{load-push, pending-push, job_smaller, job_done}
+use Rattle.std.proofs.Common.{◌∙◌}
+use Rattle.hr_type.proofs.Jobbing.{job_smaller, job_done}
 use Rattle.hr_type.proofs.write.write_type.Goals as goal
 
 pub loop-job-smaller : goal.loop-job-smaller

@@ -1,4 +1,4 @@
-use Rattle.std.proofs.Common.{◌<◌, ap, subst, lt-ltb}
+use Rattle.std.proofs.Common.{◌<◌, subst, lt-ltb}
 use Rattle.hr_type.specs.Spelling.{Written, written}
 use Rattle.hr_type.specs.Jobs.{pending}
 use Rattle.hr_type.proofs.Reading.{on_ok}

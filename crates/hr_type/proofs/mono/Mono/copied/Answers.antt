@@ -1,4 +1,4 @@
-use Rattle.std.proofs.Common.{◌≡◌, [], ap, ◌∙◌, rules}
+use Rattle.std.proofs.Common.{[], ap, ◌∙◌, rules}
 use Rattle.hr_type.specs.Heads.{built}
 use Rattle.hr_type.proofs.Layers.{built_type}
 use Rattle.hr_type.proofs.Reading.{sole, sole_some}

@@ -1,6 +1,5 @@
-use Rattle.std.proofs.Common.{refl, sym, ◌∙◌}
 use Rattle.hr_type.proofs.Layers.{smaller}
-use Rattle.hr_type.proofs.Reading.{popped, layers_tell, never, heads_agree}
+use Rattle.hr_type.proofs.Reading.{popped, layers_tell}
 use Rattle.hr_type.proofs.mono.Mono.is_same.Goals as goal
 
 pub loop-left-smaller : goal.loop-left-smaller

@@ -1,0 +1,4 @@
+g a b = a + b
+xF = 1
+k = g 0 xF
+main s = show k

@@ -1,0 +1,4 @@
+module Shapes (surface) where
+
+surface w h = scaled where
+  scaled = w * h

@@ -1,0 +1,3 @@
+f = 1
+g = 2
+main s = show f

@@ -1,0 +1,5 @@
+data T = A | B
+f x = case x of A -> 1
+                B -> 2
+  where z = 0
+main s = show (f A)

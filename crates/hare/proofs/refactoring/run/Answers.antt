@@ -1,7 +1,0 @@
-use Rattle.std.proofs.Common.{rules, refl}
-use Rattle.hare.specs.declared.status.Status.{Status}
-use Rattle.hare.proofs.Ends.{told}
-use Rattle.hare.proofs.refactoring.run.Goals as goal
-
-pub returns-in_ok-bad_words-in-None : goal.returns-in_ok-bad_words-in-None
-returns-in_ok-bad_words-in-None g c = told _ _ _ Status.BadWords _ _ (search rules, refl, c.in_ok-bad_words-in-None.ensures) c.tell.ensures

@@ -1,0 +1,86 @@
+//! A renaming in memory.
+ghost use Rattle.std.specs.Prelude.{◌∷◌, [], IfOk, MatchOption};
+ghost use Rattle.hare.specs.Ends.{IsNoPlainStep, IsStep};
+ghost use Rattle.hare.specs.Shown.{shown};
+ghost use Rattle.hare.specs.Steps.{AreShort, IsOutcome, IsWholeOutcome};
+
+use crate::words::Renaming;
+use hr_base::{Seq, Text};
+use hr_check::{LoadError, Project, check};
+use hr_finish::rename;
+use hr_plain::{LoadError as PlainError, Why as PlainWhy, load, rename as rename_plain};
+use hr_why::Why;
+use std::alloc::{AllocError, Global};
+
+/// What became of the command in memory.
+#[derive(Drop)]
+pub enum Step {
+    Renamed(Seq<Text>),
+    NotAccepted(LoadError),
+    Refused(Why),
+}
+
+/// The renaming of the project that the texts are. Where they are one text of the plain form in which it is accepted,
+/// it is carried out there.
+pub fn take_step(alloc: Global, command: Renaming<'_>, texts: &[Text]) -> Result<Step, AllocError>
+    requires { AreShort texts.now }
+    ensures { IfOk result (IsOutcome (shown command.entry) texts.now) }
+{
+    let project = match check(alloc, texts) {
+        Ok(project) => project,
+        Err(error) => return Ok(Step::NotAccepted(error)),
+    };
+    match plain_step(alloc, command, texts)? {
+        Some(new) => {
+            let list = vec![in alloc; new]?;
+            Ok(Step::Renamed(Seq { list }))
+        }
+        None => whole_step(alloc, command, &project),
+    }
+}
+
+/// The text in which the renaming is carried out, if the texts are one of the plain form and it is accepted there.
+fn plain_step(
+    alloc: Global,
+    command: Renaming<'_>,
+    texts: &[Text],
+) -> Result<Option<Text>, AllocError>
+    requires { AreShort texts.now }
+    ensures { IfOk result (λ found. MatchOption found (IsNoPlainStep (shown command.entry) texts.now) (λ new. IsStep (shown command.entry) texts.now (new ∷ []))) }
+{
+    let [text] = texts else {
+        return Ok(None);
+    };
+    let tree = match load(alloc, text.as_slice()) {
+        Ok(tree) => tree,
+        Err(PlainError::Memory(error)) => return Err(error),
+        Err(_) => return Ok(None),
+    };
+    let module = Text::from_slice(alloc, command.module.as_bytes())?;
+    let new = Text::from_slice(alloc, command.new.as_bytes())?;
+    match rename_plain(alloc, &tree, &module, command.pos, &new) {
+        Ok(text) => Ok(Some(text)),
+        Err(PlainWhy::Memory(error)) => Err(error),
+        Err(_) => Ok(None),
+    }
+}
+
+/// The renaming in the whole project.
+fn whole_step(alloc: Global, command: Renaming<'_>, project: &Project) -> Result<Step, AllocError>
+    ensures { IfOk result (IsWholeOutcome project.now) }
+{
+    match rename(alloc, project, command.module, command.pos, command.new) {
+        Ok(step) => Ok(Step::Renamed(copies(alloc, step.project.texts())?)),
+        Err(why) => Ok(Step::Refused(why)),
+    }
+}
+
+fn copies(alloc: Global, texts: &[Text]) -> Result<Seq<Text>, AllocError>
+    ensures { IfOk result (λ list. list ≡ texts.now) }
+{
+    let mut list = Vec::new(alloc);
+    for text in texts {
+        list.push(text.clone()?)?;
+    }
+    Ok(Seq { list })
+}

@@ -1,0 +1,10 @@
+pub mod Between
+pub mod Enclosing
+pub mod Found
+pub mod Identifiers
+pub mod Lexed
+pub mod Read
+pub mod Reader
+pub mod Telling
+pub mod Tokens
+pub mod Written

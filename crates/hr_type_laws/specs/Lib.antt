@@ -1,0 +1,4 @@
+pub mod Blanks
+pub mod Laws
+pub mod Lexed
+pub mod Scopes
