@@ -1,13 +1,12 @@
 -- How the end of a run follows from its parts.
-use Rattle.std.proofs.Common.{◌≡◌, ℕ, ◌+◌, ◌≤◌, ◌<◌, List, [], map, length, take, Some, ◌⊎◌, inl, inr, arith, refl, subst, sym, ap, ◌∙◌}
-use Rattle.hr_shelf.specs.Outside.{Store, Output, Rose}
-use Rattle.hr_files.specs.Read.{AreRead, IsUnread, OnlyReads}
+use Rattle.std.proofs.Common.{◌≡◌, ℕ, ◌+◌, ◌≤◌, ◌<◌, List, length, take, inl, inr, arith, refl, subst, sym, ap, ◌∙◌}
+use Rattle.hr_shelf.specs.Outside.{Store, Rose}
+use Rattle.hr_files.specs.Read.{OnlyReads}
 use Rattle.hr_files.specs.Replaced.{after_changes}
-use Rattle.hr_files.specs.declared.reading.Unread.{Unread}
 use Rattle.hr_files.specs.declared.replacing.Change.{Change}
 use Rattle.hare.specs.declared.status.Status.{Status}
-use Rattle.hare.specs.Ends.{AreFew, AreGood, Ends, EndsWith, IsOffered, Reads}
-use Rattle.hare.specs.Outsides.{IsBrokenOff, IsCutOff, IsKept, IsReplaced, IsWritten, Outside}
+use Rattle.hare.specs.Ends.{AreFew, Ends, EndsWith, IsOffered, Reads}
+use Rattle.hare.specs.Outsides.{IsCutOff, IsKept, IsReplaced, IsWritten, Outside}
 use Rattle.hare.specs.Steps.{WereRead}
 use Rattle.hare.specs.Words.{Renaming}
 

@@ -1,7 +1,6 @@
 -- A renaming that is accepted in a text of the plain form has one text, and neither the text nor the renaming is refused
 -- there.
-use Rattle.std.proofs.Common.{Result, Ok, Err, IfOk, ◌≡◌, ◌≤◌, ◌<◌, ℕ, inl, inr, List, [], ◌∷◌, length, Option, Some, true≢false, arith, refl, sym, ap, subst, ◌∙◌, slice_get}
-use Rattle.std.specs.declared.alloc.AllocError.{AllocError}
+use Rattle.std.proofs.Common.{Result, Ok, Err, IfOk, ◌≡◌, ◌≤◌, ℕ, inl, inr, List, [], ◌∷◌, length, Option, Some, None, get_or, true≢false, arith, refl, sym, ap, subst, ◌∙◌, slice_get}
 use Rattle.hr_base.specs.Limits.{module_limit}
 use Rattle.hr_base.specs.declared.place.Pos.{Pos}
 use Rattle.hr_base.specs.declared.lexeme.Item.{Item}
@@ -15,12 +14,12 @@ use Rattle.hr_plain.specs.declared.loading.LoadError.{LoadError}
 use Rattle.hr_plain.specs.declared.renaming.Sought.{Sought}
 use Rattle.hr_plain.specs.declared.renaming.Why.{Why}
 use Rattle.hr_plain.specs.Form.{IsPlain}
-use Rattle.hr_plain.specs.Refusals.{IsLoadRefusal}
-use Rattle.hr_plain.specs.Renaming.{IsNameAt, IsRenamed, IsWhy, MayRename, Respelled, owner_at}
+use Rattle.hr_plain.specs.Refusals.{IsLoadRefusal, load_number}
+use Rattle.hr_plain.specs.Renaming.{IsNameAt, IsRenamed, IsWhy, Respelled, number_of, owner_at}
 use Rattle.hr_plain.specs.Scoping.{occurrences_of}
 use Rattle.hr_check.specs.Projects.{texts_of}
 use Rattle.hr_check.specs.declared.project.Project.{Project}
-use Rattle.hare.specs.Ends.{IsWholeStep, IsMadePlainly, IsMeant, IsNoPlainStep, IsPlainStep, IsStep}
+use Rattle.hare.specs.Ends.{IsMeant, IsNoPlainStep, IsStep}
 use Rattle.hare.specs.Steps.{IsOutcome, IsWholeOutcome}
 use Rattle.hare.specs.Words.{Renaming}
 use Rattle.hare.specs.declared.steps.Step.{Step}
@@ -29,6 +28,9 @@ use Rattle.hare.proofs.OneTree.{one_tree}
 
 same_some : {X : Type 0} (x y : X) → Some x ≡ Some y → x ≡ y
 same_some x y e = cc
+
+no_number : (number : ℕ) → ◌≡◌ {A = Option ℕ} None (Some number) → ⊥
+no_number number e = cc
 
 -- one lexeme begins at a position
 one_name : (tree : Module) (module_name : List ℕ) (pos : Pos) (lexeme other : ℕ) (item found : Item)
@@ -59,22 +61,22 @@ one_renamed tree module_name pos new text other p q =
 
 -- a renaming that is accepted is refused for no cause but want of memory
 accepted_or_refused : (tree : Module) (module_name : List ℕ) (pos : Pos) (new text : List ℕ) (why : Why) → IsRenamed tree module_name pos new text
-    → IsWhy tree module_name pos new why → ((error : AllocError) → why ≡ Why.Memory error → ⊥) → ⊥
-accepted_or_refused tree module_name pos new text (Why.NoSuchThing (Sought.Name name)) renamed cause told = cause
-accepted_or_refused tree module_name pos new text (Why.NoSuchThing (Sought.At place)) renamed cause told = cause.1 renamed.lexeme renamed.item renamed.may.name
-accepted_or_refused tree module_name pos new text Why.WrongForm renamed cause told = cause.1 renamed.may.varid
-accepted_or_refused tree module_name pos new text Why.NameInUse renamed cause told = true≢false (sym cause.2 ∙ renamed.may.fresh)
-accepted_or_refused tree module_name pos new text Why.OverLimit renamed (lexeme, item, items, may, respelled, over) told =
+    → IsWhy tree module_name pos new why → (number : ℕ) → number_of why ≡ Some number → ⊥
+accepted_or_refused tree module_name pos new text (Why.NoSuchThing (Sought.Name name)) renamed cause number told = cause
+accepted_or_refused tree module_name pos new text (Why.NoSuchThing (Sought.At place)) renamed cause number told = cause.1 renamed.lexeme renamed.item renamed.may.name
+accepted_or_refused tree module_name pos new text Why.WrongForm renamed cause number told = cause.1 renamed.may.varid
+accepted_or_refused tree module_name pos new text Why.NameInUse renamed cause number told = true≢false (sym cause.2 ∙ renamed.may.fresh)
+accepted_or_refused tree module_name pos new text Why.OverLimit renamed (lexeme, item, items, may, respelled, over) number told =
     let long : length text ≡ length (joined items.list items.tail) = ap length (text_is tree module_name pos new text lexeme item items renamed may.name respelled) in
     omega (arith, over, renamed.within, long)
-accepted_or_refused tree module_name pos new text (Why.Memory error) renamed cause told = told error refl
+accepted_or_refused tree module_name pos new text (Why.Memory error) renamed cause number told = no_number number told
 
 -- and a text of the form is
 plain_or_refused : (old : List ℕ) (tree : Module) (error : LoadError) → length old ≤ module_limit → IsPlain old tree → IsLoadRefusal old error
-    → ((memory : AllocError) → error ≡ LoadError.Memory memory → ⊥) → ⊥
-plain_or_refused old tree (LoadError.Lex text error) short plain refusal told = no_cause old error (items_of tree) short plain.lexes refusal.1
-plain_or_refused old tree (LoadError.OutsideForm text) short plain refusal told = refusal.2 tree plain
-plain_or_refused old tree (LoadError.Memory error) short plain refusal told = told error refl
+    → (number : ℕ) → load_number error ≡ Some number → ⊥
+plain_or_refused old tree (LoadError.Lex text error) short plain refusal number told = no_cause old error (items_of tree) short plain.lexes refusal.1
+plain_or_refused old tree (LoadError.OutsideForm text) short plain refusal number told = refusal.2 tree plain
+plain_or_refused old tree (LoadError.Memory error) short plain refusal number told = no_number number told
 
 module _ (renaming : Renaming) (olds : List (List ℕ)) (old : List ℕ) (is : olds ≡ old ∷ []) where
   -- the bytes of the one text
@@ -102,24 +104,26 @@ module _ (renaming : Renaming) (olds : List (List ℕ)) (old : List ℕ) (is : o
     }
 
     -- where it is refused there is none
-    pub no_step : (why : Why) → IsWhy tree renaming.module_name renaming.pos renaming.new_name why → ((error : AllocError) → why ≡ Why.Memory error → ⊥)
+    pub no_step : (why : Why) → IsWhy tree renaming.module_name renaming.pos renaming.new_name why → (number : ℕ) → number_of why ≡ Some number
         → IsNoPlainStep renaming olds
-    no_step why cause other_cause other new here step =
+    no_step why cause number told other new here step =
         let found = same_tree other tree step.tree here step.plain plain in
         let theirs : IsRenamed tree renaming.module_name renaming.pos renaming.new_name new =
         subst (λ t. IsRenamed t renaming.module_name renaming.pos renaming.new_name new) found step.renamed
         in
-        accepted_or_refused tree renaming.module_name renaming.pos renaming.new_name new why theirs cause other_cause
+        accepted_or_refused tree renaming.module_name renaming.pos renaming.new_name new why theirs cause number told
 
   -- nor where the text is not of the form
-  pub no_plain : (error : LoadError) → length old ≤ module_limit → IsLoadRefusal old error → ((memory : AllocError) → error ≡ LoadError.Memory memory → ⊥)
+  pub no_plain : (error : LoadError) → length old ≤ module_limit → IsLoadRefusal old error → (number : ℕ) → load_number error ≡ Some number
       → IsNoPlainStep renaming olds
-  no_plain error short refusal other_cause other new here step =
-      plain_or_refused old step.tree error short (subst (λ o. IsPlain o step.tree) (same_old other here) step.plain) refusal other_cause
+  no_plain error short refusal number told other new here step =
+      plain_or_refused old step.tree error short (subst (λ o. IsPlain o step.tree) (same_old other here) step.plain) refusal number told
 
--- texts that are not one text have none
-pub not_one : (renaming : Renaming) (olds : List (List ℕ)) → ((old : List ℕ) → olds ≡ old ∷ [] → ⊥) → IsNoPlainStep renaming olds
-not_one renaming olds other old new here step = other old here
+-- a list of one text
+pub one_text : (texts : List (List ℕ)) (text : List ℕ) → length texts ≡ 1 → text ≡ get_or texts 0 text → texts ≡ text ∷ []
+one_text [] text one is = absurd (omega (arith, one))
+one_text (first ∷ []) text one is = ap (λ t. t ∷ []) (sym is)
+one_text (first ∷ second ∷ texts) text one is = absurd (omega (arith, one))
 
 -- where there is none, what became of the renaming in the whole project is its outcome
 pub outcome_without : (renaming : Renaming) (olds : List (List ℕ)) (project : Project) → texts_of project ≡ olds → IsNoPlainStep renaming olds → (step : Step)

@@ -1,11 +1,10 @@
 -- The changes of a step are of files that are ready to be replaced.
-use Rattle.std.proofs.Common.{◌≡◌, ◌≤◌, ◌<◌, ◌+◌, ℕ, Bool, true, false, List, [], ◌∷◌, length, All, Option, Some, None, if◌then◌else◌, arith}
+use Rattle.std.proofs.Common.{◌≤◌, ◌<◌, ◌+◌, ℕ, Bool, true, false, List, [], ◌∷◌, length, All, Option, Some, None, if◌then◌else◌, arith}
 use Rattle.std.proofs.lemmas.List.Elements.{All-append, All-cons, All-nil}
 use Rattle.std.specs.Prelude.{slice_get}
 use Rattle.std.specs.Str.{bytes_eq}
 use Rattle.hr_files.specs.Read.{AreReady}
 use Rattle.hr_files.specs.Replaced.{IsReadyChange, change_at, changes_from}
-use Rattle.hr_files.specs.declared.replacing.Change.{Change}
 
 module _ (ready names : List (List ℕ)) (every : AreReady ready names) where
   ready_if : (file : ℕ) (new : List ℕ) → file < length names → (same : Bool)

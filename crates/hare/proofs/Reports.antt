@@ -1,13 +1,12 @@
--- Lists of lines and of reports, one for each change.
-use Rattle.std.proofs.Common.{◌≡◌, ℕ, ◌+◌, List, [], ◌∷◌, ◌++◌, length, map, codes, sym, ap, ◌∙◌, append_assoc}
-use Rattle.std.proofs.lemmas.List.{length-map}
-use Rattle.std.specs.Fmt.{decimal}
-use Rattle.hare.specs.Report.{done, done_line, line, lines}
+-- Reports of changes.
+use Rattle.std.proofs.Common.{◌≡◌, ◌<◌, ℕ, List, [], length, map, get_or, sym, ap, ◌∙◌}
+use Rattle.std.proofs.lemmas.List.{get_or-map}
+use Rattle.hr_files.specs.declared.replacing.Change.{Change}
+use Rattle.hare.specs.Report.{write_fault}
 
--- a report of so many lines begins with their number
-pub counted : {X : Type 0} (f : X → List ℕ) (xs : List X) (text count : List ℕ) → text ≡ done_line → count ≡ line (codes "changed " ++ decimal (length xs))
-    → (text ++ count) ++ lines (map f xs) ≡ done (map f xs)
-counted f xs text count is number =
-    append_assoc text count (lines (map f xs))
-    ∙ ap (λ front. front ++ (count ++ lines (map f xs))) is
-    ∙ ap (λ middle. done_line ++ (middle ++ lines (map f xs))) (number ∙ ap (λ n. line (codes "changed " ++ decimal n)) (sym (length-map xs f)))
+-- the report of the change of a number is that of its file
+pub fault_of : (f : Change → List ℕ) (changes : List Change) (number : ℕ) → number < length changes
+    → get_or (map (λ change. write_fault (f change)) changes) number [] ≡ write_fault (get_or (map f changes) number [])
+fault_of f changes number within =
+    let any : Change = record { file = 0; bytes = [] } in
+    get_or-map (λ change. write_fault (f change)) changes number any [] within ∙ ap write_fault (sym (get_or-map f changes number any [] within))

@@ -2,7 +2,7 @@
 use Rattle.std.specs.Prelude.{◌≡◌, ℕ, ◌≤◌, List, All, length}
 use Rattle.hr_base.specs.Limits.{module_limit}
 use Rattle.hr_shelf.specs.Outside.{Store, Output}
-use Rattle.hr_files.specs.Read.{AreRead, AreReady, IsUnread}
+use Rattle.hr_files.specs.Read.{AreRead, IsUnread}
 use Rattle.hr_files.specs.declared.reading.Unread.{Unread}
 use Rattle.hr_check.specs.Projects.{texts_of}
 use Rattle.hr_check.specs.declared.project.Project.{Project}

@@ -1,6 +1,6 @@
 -- The words of a command line that are one command: `rename MODULE LINE:COLUMN NAME in FILE ..`. What may stand for a
 -- module, a position and a name is as in a script.
-use Rattle.std.specs.Prelude.{ℕ, Bool, ◌&&◌, List, [], ◌∷◌, Option, Some, None, if◌then◌else◌, codes}
+use Rattle.std.specs.Prelude.{ℕ, Bool, ◌&&◌, List, ◌∷◌, Option, Some, None, if◌then◌else◌, codes}
 use Rattle.std.specs.Str.{bytes_eq}
 use Rattle.hr_base.specs.declared.place.Pos.{Pos}
 use Rattle.hr_script.specs.Numbers.{position_in}

@@ -1,5 +1,5 @@
 //! A renaming in memory.
-ghost use Rattle.std.specs.Prelude.{◌∷◌, [], IfOk, MatchOption};
+ghost use Rattle.std.specs.Prelude.{◌≡◌, ◌∷◌, [], IfOk, MatchOption};
 ghost use Rattle.hare.specs.Ends.{IsNoPlainStep, IsStep};
 ghost use Rattle.hare.specs.Shown.{shown};
 ghost use Rattle.hare.specs.Steps.{AreShort, IsOutcome, IsWholeOutcome};
@@ -8,7 +8,7 @@ use crate::words::Renaming;
 use hr_base::{Seq, Text};
 use hr_check::{LoadError, Project, check};
 use hr_finish::rename;
-use hr_plain::{LoadError as PlainError, Why as PlainWhy, load, rename as rename_plain};
+use hr_plain::{load, rename as rename_plain};
 use hr_why::Why;
 use std::alloc::{AllocError, Global};
 
@@ -53,15 +53,21 @@ fn plain_step(
     };
     let tree = match load(alloc, text.as_slice()) {
         Ok(tree) => tree,
-        Err(PlainError::Memory(error)) => return Err(error),
-        Err(_) => return Ok(None),
+        Err(error) => {
+            return match error.number() {
+                Some(_) => Ok(None),
+                None => Err(AllocError),
+            };
+        }
     };
     let module = Text::from_slice(alloc, command.module.as_bytes())?;
     let new = Text::from_slice(alloc, command.new.as_bytes())?;
     match rename_plain(alloc, &tree, &module, command.pos, &new) {
         Ok(text) => Ok(Some(text)),
-        Err(PlainWhy::Memory(error)) => Err(error),
-        Err(_) => Ok(None),
+        Err(why) => match why.number() {
+            Some(_) => Ok(None),
+            None => Err(AllocError),
+        },
     }
 }
 

@@ -5,6 +5,7 @@ use crate::shown::Shown;
 use hr_tree::{Listed, Pat, Ty};
 use std::alloc::AllocError;
 
+#[cycle(types)]
 pub fn types(out: &mut Shown, list: &[Ty]) -> Result<(), AllocError> {
     for part in list {
         ty(out, part)?;
@@ -12,6 +13,7 @@ pub fn types(out: &mut Shown, list: &[Ty]) -> Result<(), AllocError> {
     Ok(())
 }
 
+#[cycle(types)]
 fn listed_types(out: &mut Shown, list: &[Listed<Ty>]) -> Result<(), AllocError> {
     for listed in list {
         ty(out, &listed.part)?;
@@ -20,6 +22,7 @@ fn listed_types(out: &mut Shown, list: &[Listed<Ty>]) -> Result<(), AllocError> 
     Ok(())
 }
 
+#[cycle(types)]
 pub fn ty(out: &mut Shown, part: &Ty) -> Result<(), AllocError> {
     match part {
         Ty::Variable(name) => out.item(name),
@@ -61,6 +64,7 @@ pub fn ty(out: &mut Shown, part: &Ty) -> Result<(), AllocError> {
     }
 }
 
+#[cycle(patterns)]
 pub fn patterns(out: &mut Shown, list: &[Pat]) -> Result<(), AllocError> {
     for part in list {
         pattern(out, part)?;
@@ -68,6 +72,7 @@ pub fn patterns(out: &mut Shown, list: &[Pat]) -> Result<(), AllocError> {
     Ok(())
 }
 
+#[cycle(patterns)]
 fn listed(out: &mut Shown, list: &[Listed<Pat>]) -> Result<(), AllocError> {
     for listed in list {
         pattern(out, &listed.part)?;
@@ -76,6 +81,7 @@ fn listed(out: &mut Shown, list: &[Listed<Pat>]) -> Result<(), AllocError> {
     Ok(())
 }
 
+#[cycle(patterns)]
 pub fn pattern(out: &mut Shown, part: &Pat) -> Result<(), AllocError> {
     match part {
         Pat::Variable(bound) => variable(out, bound),

@@ -1,15 +1,15 @@
-use Rattle.std.proofs.Common.{◌≡◌, ◌≤◌, ◌+◌, length, map, sym, subst}
+use Rattle.std.proofs.Common.{◌≤◌, ◌+◌, map, sym, subst}
 use Rattle.std.proofs.lemmas.List.{length-map}
 use Rattle.std.specs.String.{string_bytes}
 use Rattle.hr_files.specs.Read.{AreRead}
 use Rattle.hare.proofs.Ends.{only_reads}
 use Rattle.hare.proofs.refactoring.rename_files.Goals as goal
 
-pub rename_texts-requires-short : goal.rename_texts-requires-short
-rename_texts-requires-short g c = rw c.as_slice.ensures.value c.in-Ok.ensures.texts.each
+pub rename_texts-requires-clause-short : goal.rename_texts-requires-clause-short
+rename_texts-requires-clause-short g c = rw c.as_slice.ensures.value c.in-Ok.ensures.texts.each
 
-pub rename_texts-requires-count : goal.rename_texts-requires-count
-rename_texts-requires-count g c = rw c.as_slice.ensures.value c.in-Ok.ensures.texts.count
+pub rename_texts-requires-clause-count : goal.rename_texts-requires-clause-count
+rename_texts-requires-clause-count g c = rw c.as_slice.ensures.value c.in-Ok.ensures.texts.count
 
 pub returns-in-Ok : goal.returns-in-Ok
 returns-in-Ok g c = λ words few.

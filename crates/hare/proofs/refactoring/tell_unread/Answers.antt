@@ -1,4 +1,4 @@
-use Rattle.std.proofs.Common.{◌≡◌, inl, inr, map, subst, ap, ◌∙◌}
+use Rattle.std.proofs.Common.{inl, inr, map, subst, ap, ◌∙◌}
 use Rattle.std.specs.String.{string_bytes}
 use Rattle.hr_files.specs.Read.{IsUnread}
 use Rattle.hare.specs.declared.status.Status.{Status}
