@@ -1,5 +1,5 @@
 -- The beginning of a declaration is read where its parts are.
-use Rattle.std.proofs.Common.{◌≡◌, ◌≢◌, ℕ, ◌+◌, ◌-◌, ◌<◌, ◌≤◌, max, false, List, [], ◌∷◌, ◌++◌, length, refl, sym, ap, ◌∙◌, subst, arith, length-append}
+use Rattle.std.proofs.Common.{◌≡◌, ◌≢◌, ℕ, ◌<◌, ◌≤◌, max, false, List, [], ◌∷◌, ◌++◌, length, refl, sym, ◌∙◌, subst, arith}
 use Rattle.hr_base.specs.declared.lexeme.Item.{Item}
 use Rattle.hr_rules.specs.declared.block.Placed.{Placed}
 use Rattle.hr_rules.specs.Blocks.{enclosing}
@@ -16,16 +16,15 @@ use Rattle.hr_grammar.specs.Nodes.{PatPlace}
 use Rattle.hr_grammar_cases.specs.Readings.{Reading, ◌▷◌, one, in_turn}
 use Rattle.hr_grammar_cases.specs.Declarations.{closed_reading, left_head_reading, left_side_reading}
 use Rattle.hr_grammar_cases.specs.Modules.{derivations}
-use Rattle.hr_parse_lexeme.specs.Reads.{Phrase, Consumes, Takes, Spells, ReadsEach}
+use Rattle.hr_parse_lexeme.specs.Reads.{Consumes, Takes, Spells}
 use Rattle.hr_parse_lexeme.proofs.Phrases.{last, then, item, name, where_given, each_none, each_more}
-use Rattle.hr_parse_left.specs.declared.front.Front.{Front}
 use Rattle.hr_parse_left.specs.declared.front.Left.{Left}
 use Rattle.hr_parse_left.specs.declared.front.Level.{Level}
 use Rattle.hr_parse_left.specs.declared.front.Reached.{Reached}
 use Rattle.hr_parse_left.specs.declared.level.Own.{Own}
 use Rattle.hr_parse_pattern.specs.declared.many.Many.{Many}
 use Rattle.hr_parse_pattern.specs.declared.part.Part.{Part}
-use Rattle.hr_parse_left.specs.Fronts.{headed_of, reached_height, ReadsOwn, ReadsBehind, ReadsFront, ReadsLeft, ReadsLevel, ReadsOpens, ReadsReached}
+use Rattle.hr_parse_left.specs.Fronts.{headed_of, reached_height, ReadsOwn, ReadsLeft, ReadsLevel, ReadsOpens, ReadsReached}
 use Rattle.hr_parse_pattern.specs.Patterns.{ReadsPat, ReadsArguments}
 use Rattle.hr_parse_pattern.proofs.Lists.{left_of_max, right_of_max, none_before}
 use Rattle.hr_parse_pattern.proofs.Names.{same_name}

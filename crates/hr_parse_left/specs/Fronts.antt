@@ -4,7 +4,6 @@ use Rattle.std.specs.Prelude.{ℕ, List, []}
 use Rattle.hr_base.specs.declared.lexeme.Item.{Item}
 use Rattle.hr_layout.specs.Standing.{Standing}
 use Rattle.hr_tree.specs.declared.declarations.LeftHead.{LeftHead}
-use Rattle.hr_tree.specs.declared.declarations.LeftSide.{LeftSide}
 use Rattle.hr_tree.specs.declared.patterns.Pat.{Pat}
 use Rattle.hr_tree.specs.Names.{operator_items, variable_items}
 use Rattle.hr_grammar.specs.Words.{IsLeftParen}

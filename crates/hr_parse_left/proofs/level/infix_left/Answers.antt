@@ -1,5 +1,4 @@
 use Rattle.std.proofs.Common.{◌-◌, ◌∙◌, arith}
-use Rattle.hr_grammar.specs.Nodes.{PatPlace}
 use Rattle.hr_parse_left.proofs.Fronts.{headed_fits, infix_left_made}
 use Rattle.hr_parse_pattern.proofs.Names.{same_name}
 use Rattle.hr_parse_pattern.proofs.Patterns.{made, infix_read, height_below}

@@ -1,4 +1,3 @@
-use Rattle.std.proofs.Common.{◌∙◌}
 use Rattle.hr_parse_pattern.proofs.Names.{same_name}
 use Rattle.hr_parse_pattern.proofs.Patterns.{as_operand}
 use Rattle.hr_parse_left.proofs.level.variable.Goals as goal
