@@ -1,5 +1,8 @@
 //! How many lexemes stand in what has no block in it: names, patterns and types.
 
+ghost use Rattle.std.specs.Prelude.{◌≡◌, length};
+ghost use Rattle.hr_tree.specs.Names.{operator_items, variable_items};
+
 use hr_base::Item;
 use hr_tree::{
     Closed, Construction, Constructor, Field, FieldType, LeftHead, LeftSide, Listed, Operand,
@@ -10,7 +13,9 @@ pub fn maybe_len(item: &Option<Item>) -> usize {
     usize::from(item.is_some())
 }
 
-pub fn variable_len(variable: &Variable) -> usize {
+pub fn variable_len(variable: &Variable) -> usize
+    ensures { result ≡ length (variable_items variable.now) }
+{
     match variable {
         Variable::Name(_) => 1,
         Variable::Symbol(_, _, _) => 3,
@@ -27,7 +32,9 @@ pub fn constructor_len(constructor: &Constructor) -> usize {
     }
 }
 
-pub fn operator_len(operator: &Operator) -> usize {
+pub fn operator_len(operator: &Operator) -> usize
+    ensures { result ≡ length (operator_items operator.now) }
+{
     match operator {
         Operator::Symbol(_) => 1,
         Operator::Quoted(_, _, _) => 3,

@@ -1,4 +1,6 @@
 //! Which fixity each operator has: the Haskell 98 Report, section 4.4.2.
+ghost use Rattle.std.specs.Prelude.{◌≡◌, ◌≤◌, ◌+◌, ◌∷◌, [], IfSome};
+
 use hr_base::{Binder, Class, Lexeme};
 use hr_fixity::{Direction, Fixity};
 use hr_outline::{Mark, outline_of};
@@ -100,7 +102,9 @@ fn direction_of(word: &[u8]) -> Option<Direction> {
 }
 
 /// The level that a digit is.
-fn level_of(number: &[u8]) -> Option<u8> {
+fn level_of(number: &[u8]) -> Option<u8>
+    ensures { IfSome result (λ level. (level ≤ 9) × (number.now ≡ (48 + level) ∷ [])) }
+{
     match number {
         [digit] if b'0' <= *digit && *digit <= b'9' => Some(digit.saturating_sub(b'0')),
         _ => None,

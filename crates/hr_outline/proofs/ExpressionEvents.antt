@@ -29,7 +29,7 @@ use Rattle.hr_tree.specs.declared.expressions.Decl.TheViews.{rolls-Group, rolls-
 use Rattle.hr_tree.specs.Lists.{opening_items, closing_items}
 use Rattle.hr_scope_rules.specs.declared.naming.Naming.{Naming}
 use Rattle.hr_scope_rules.specs.declared.joint.Joint.{Joint}
-use Rattle.hr_scope_rules.specs.Events.{Event, plain, bare}
+use Rattle.hr_scope_rules.specs.Events.{Event, plain, plain_events}
 use Rattle.hr_scope_rules.specs.Phrases.{done, listed_events, maybe_events, operand_events, sequence_events, operator_events, field_events, ty_events, pat_events}
 use Rattle.hr_scope_rules.specs.Outline.{Declared, Qualified, as_declared, as_qualified, goes_on, head_text, piece_events, passed, pieces_events, block_events, alternative_events, alternatives_events, guarded_events, body_events, where_entered, where_events, rest_events, left_side_events, entering, leaving, left_behind, all_entered, all_left, qualifiers_events, decl_layer, exp_layer, qualifier_layer, alt_layer, declared_of, exp_events, qualified_of, alt_events}
 
@@ -72,7 +72,7 @@ guarded_of g = record { bar = g.bar; guard = exp_events g.guard; mark = g.mark; 
 
 -- a block, from what is read of its declarations or alternatives
 abbrev block_of : {T : Type 0} → Block T → List Event → List Event
-block_of block pieces = bare (opening_items block.layout) ++ (pieces ++ bare (closing_items block.layout))
+block_of block pieces = plain_events (opening_items block.layout) ++ (pieces ++ plain_events (closing_items block.layout))
 
 abbrev where_of : Where Decl → List Event → List Event
 where_of locals pieces = plain locals.word ∷ (block_of locals.block pieces ++ Event.Leave ∷ [])

@@ -1,7 +1,7 @@
 //! What stands in declarations beside expressions.
 ghost use Rattle.std.specs.Prelude.{◌≡◌, ◌∷◌, [], ◌++◌, OnOk, fold, map};
 ghost use Rattle.std.specs.List.{flat_map};
-ghost use Rattle.hr_scope_rules.specs.Events.{after, bare, Event, plain};
+ghost use Rattle.hr_scope_rules.specs.Events.{after, plain_events, Event, plain};
 ghost use Rattle.hr_scope_rules.specs.Phrases.{listed_events, maybe_events, operator_events, pat_events, ty_events, variable_events};
 ghost use Rattle.hr_scope_rules.specs.Outline.{closed_events, construction_events, field_type_events, head_events, left_head_events, left_side_events};
 ghost use Rattle.hr_outline.specs.Seen.{seen};

@@ -2,7 +2,7 @@ ghost use Rattle.std.specs.Prelude.{◌≡◌, OnOk, fold};
 ghost use Rattle.std.specs.List.{flat_map};
 ghost use Rattle.hr_tree.specs.Lists.{closing_items, opening_items};
 ghost use Rattle.hr_tree.specs.Yields.{maybe_alias};
-ghost use Rattle.hr_scope_rules.specs.Events.{after, bare};
+ghost use Rattle.hr_scope_rules.specs.Events.{after, plain_events};
 ghost use Rattle.hr_scope_rules.specs.Phrases.{listed_events};
 ghost use Rattle.hr_scope_rules.specs.Lists.{export_events, exports_events, header_events, hidden_events, import_events, import_names_events, imported_events, listing_events, member_events, members_events};
 ghost use Rattle.hr_outline.specs.Seen.{seen};
@@ -17,7 +17,7 @@ use hr_tree::{
 use std::alloc::AllocError;
 
 pub(crate) fn read_opening<'a>(layout: &'a Layout, out: &mut Outline<'a>) -> Result<(), AllocError>
-    ensures { OnOk result (seen out.new ≡ fold after (seen out.old) (bare (opening_items layout.now))) }
+    ensures { OnOk result (seen out.new ≡ fold after (seen out.old) (plain_events (opening_items layout.now))) }
 {
     match layout {
         Layout::Implicit { .. } => Ok(()),
@@ -26,7 +26,7 @@ pub(crate) fn read_opening<'a>(layout: &'a Layout, out: &mut Outline<'a>) -> Res
 }
 
 pub(crate) fn read_closing<'a>(layout: &'a Layout, out: &mut Outline<'a>) -> Result<(), AllocError>
-    ensures { OnOk result (seen out.new ≡ fold after (seen out.old) (bare (closing_items layout.now))) }
+    ensures { OnOk result (seen out.new ≡ fold after (seen out.old) (plain_events (closing_items layout.now))) }
 {
     match layout {
         Layout::Implicit { .. } => Ok(()),
@@ -161,7 +161,7 @@ pub(crate) fn read_import<'a>(import: &'a Import, out: &mut Outline<'a>) -> Resu
 }
 
 fn read_alias<'a>(alias: &'a Option<Alias>, out: &mut Outline<'a>) -> Result<(), AllocError>
-    ensures { OnOk result (seen out.new ≡ fold after (seen out.old) (bare (maybe_alias alias.now))) }
+    ensures { OnOk result (seen out.new ≡ fold after (seen out.old) (plain_events (maybe_alias alias.now))) }
 {
     match alias {
         Some(alias) => read_two(&alias.word, &alias.name, out),

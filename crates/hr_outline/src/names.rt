@@ -1,6 +1,6 @@
 ghost use Rattle.std.specs.Prelude.{◌≡◌, OnOk, fold, [], ◌∷◌, ◌++◌};
 ghost use Rattle.std.specs.List.{flat_map};
-ghost use Rattle.hr_scope_rules.specs.Events.{after, bare, Event, plain};
+ghost use Rattle.hr_scope_rules.specs.Events.{after, plain_events, Event, plain};
 ghost use Rattle.hr_scope_rules.specs.Phrases.{constructor_events, listed_events, joining_events, maybe_events, minus_events, operator_events, variable_events};
 ghost use Rattle.hr_outline.specs.Seen.{seen};
 
@@ -11,7 +11,7 @@ use hr_tree::{Constructor, Listed, Operator, Variable};
 use std::alloc::AllocError;
 
 pub(crate) fn read_all_plain<'a>(items: &'a [Item], out: &mut Outline<'a>) -> Result<(), AllocError>
-    ensures { OnOk result (seen out.new ≡ fold after (seen out.old) (bare items.now)) }
+    ensures { OnOk result (seen out.new ≡ fold after (seen out.old) (plain_events items.now)) }
 {
     for item in items {
         out.plain(item)?;

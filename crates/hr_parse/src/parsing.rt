@@ -1,4 +1,5 @@
 //! Modules: the Haskell 98 Report, chapter 5. The first lexeme decides whether there is a header.
+ghost use Rattle.std.specs.Prelude.{◌≡◌, IfOk};
 
 use hr_base::Items;
 use hr_layout::Cursor;
@@ -16,7 +17,9 @@ struct Whole {
 }
 
 /// The tree of the items.
-pub fn parse(alloc: Global, items: Items) -> Result<Module, ParseError> {
+pub fn parse(alloc: Global, items: Items) -> Result<Module, ParseError>
+    ensures tail { IfOk result (λ tree. tree.tail ≡ items.tail) }
+{
     let Items { list, tail } = items;
     let mut cursor = match Cursor::new(alloc, list) {
         Ok(cursor) => cursor,
@@ -40,10 +43,7 @@ pub fn parse(alloc: Global, items: Items) -> Result<Module, ParseError> {
 /// The header, if the text begins with one, and the body, behind which nothing stands.
 fn read(alloc: Global, cursor: &mut Cursor, notes: &mut Notes) -> Result<Whole, Stop> {
     let header = maybe_header(alloc, cursor, notes)?;
-    let body = declarations(alloc, cursor, notes, 0, true)?;
-    if cursor.peek().is_some() {
-        return Err(Stop::Syntax);
-    }
+    let body = declarations(alloc, cursor, notes, 0)?;
     nest(0, body.height)?;
     Ok(Whole { header, body })
 }

@@ -3,9 +3,10 @@ ghost use Rattle.std.specs.Prelude.{IfOk, true, ◌≡◌};
 ghost use Rattle.hr_layout.specs.Standing.{Standing};
 ghost use Rattle.hr_parse_lexeme.specs.declared.mark.Mark.{Mark};
 ghost use Rattle.hr_parse_declaration.specs.Stated.{ReadsDecl};
-ghost use Rattle.hr_parse_parts.specs.Blocks.{Begins, BeginsAlt, BeginsDecl, ReadsAlt, ReadsAlts, ReadsDecls, WaitsAlt, WaitsDecl, first_position, opening_kind};
+ghost use Rattle.hr_parse_parts.specs.Blocks.{Begins, BeginsAlt, BeginsDecl, ReadsAlt, ReadsAlts, ReadsDecls, WaitsAlt, WaitsDecl, opening_kind};
 ghost use Rattle.hr_parse_parts.specs.Places.{block_place, decl_place, opening_place};
 ghost use Rattle.hr_parse_parts.specs.Steps.{IsOpening, ReadsValue, Steps, Wanted};
+ghost use Rattle.hr_parse_blocks.specs.Positions.{first_position};
 
 use crate::heads::{Found, declaration, position_behind, stated_by};
 use hr_layout::Cursor;

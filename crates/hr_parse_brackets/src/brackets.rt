@@ -1,4 +1,6 @@
 //! Expressions in parentheses: groups, tuples and sections, the Haskell 98 Report, sections 3.5, 3.8 and 3.9.
+ghost use Rattle.std.specs.Prelude.{◌≡◌, false};
+ghost use Rattle.hr_parse_brackets.specs.Operators.{IsQuoted};
 
 use crate::lists::{Sequenced, behind_first, behind_last, behind_part, behind_second};
 use crate::names::{Parenthesized, constructor, symbol, whole};
@@ -135,7 +137,9 @@ fn section(left: Item, operator: Held<Operator>, depth: u32) -> Result<Step, Sto
     ))
 }
 
-fn is_minus(operator: &Operator) -> bool {
+fn is_minus(operator: &Operator) -> bool
+    ensures { IsQuoted operator.now → result ≡ false }
+{
     match operator {
         Operator::Symbol(symbol) => Mark::Minus.is(&symbol.lexeme),
         Operator::Quoted(_, _, _) => false,
@@ -385,6 +389,6 @@ fn patterns(
     } = begun;
     let before = refused(twins)?;
     let part = closed_parts(alloc, cursor, notes, below(depth), left, before, part)?;
-    notes.whole(cursor.pos());
+    notes.pattern(cursor.pos());
     Ok(done_pattern(part))
 }

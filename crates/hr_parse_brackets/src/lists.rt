@@ -231,7 +231,7 @@ fn patterns(
 ) -> Result<Step, Stop> {
     let before = refused(before)?;
     let part = closed_list(alloc, cursor, notes, below(depth), left, before, part)?;
-    notes.whole(cursor.pos());
+    notes.pattern(cursor.pos());
     Ok(done_pattern(part))
 }
 

@@ -22,7 +22,7 @@ pub fn variable(
 ) -> Result<Step, Stop> {
     if may_bind && is_next(cursor, Mark::At) {
         let part = bound_at(alloc, cursor, notes, depth, name.take())?;
-        notes.whole(cursor.pos());
+        notes.pattern(cursor.pos());
         return Ok(done_pattern(part));
     }
     let twin = bound_twin(alloc, name.get(), may_bind)?;
@@ -96,13 +96,17 @@ pub(crate) fn symbol(
     }
 }
 
-/// An atom that is whole.
+/// An atom that is whole, and a pattern where one may stand.
 pub fn whole(
     cursor: &Cursor,
     notes: &mut Notes,
     part: Part<Exp>,
     twin: Option<Held<Twin>>,
 ) -> Step {
-    notes.whole(cursor.pos());
+    if twin.is_some() {
+        notes.pattern(cursor.pos());
+    } else {
+        notes.whole(cursor.pos());
+    }
     done_expression(operand(part, APPLIED, twin))
 }

@@ -14,7 +14,7 @@ use hr_layout::Cursor;
 use hr_parse_lexeme::{
     Held, Kind, Mark, Measured, Notes, Sort, Stop, accept, accept_sort, expect, kind_ahead, nest,
 };
-use hr_parse_type::{applied, applied_type, atomic_type, opened_type};
+use hr_parse_type::{applied, applied_type, atomic_type, opened_type, refuse_argument};
 use hr_tree::{Construction, Constructor, Operator, Ty};
 use sqlite_items::Items as Children;
 use std::alloc::{AllocError, Global};
@@ -113,6 +113,7 @@ fn infix(
     ensures reads { IfOk result (λ part. (before : Standing) → ReadsTy TyPlace.Applied first before cursor.old → ReadsConstruction part before cursor.new) }
     ensures fits { IfOk result (λ part. depth + part.height ≤ 256) }
 {
+    refuse_argument(cursor, first.tree.get())?;
     let read = own_constructor_operator(cursor)?;
     let operator = Held::new(read);
     let second = applied_type(alloc, cursor, depth)?;
@@ -172,7 +173,7 @@ fn types(
     })
 }
 
-/// A constructor with one type.
+/// A constructor with one type. Behind a type variable a second one is left out of the language.
 pub(crate) fn new_construction(
     alloc: Global,
     cursor: &mut Cursor,
@@ -187,6 +188,9 @@ pub(crate) fn new_construction(
     let constructor = Held::new(read);
     notes.whole(cursor.pos());
     let ty = atomic_type(alloc, cursor, depth)?;
+    if begins_type(kind_ahead(cursor)) {
+        refuse_argument(cursor, ty.tree.get())?;
+    }
     notes.whole(cursor.pos());
     let types = one_type(alloc, ty)?;
     Ok(prefix(constructor, types))
@@ -205,7 +209,7 @@ fn one_type(alloc: Global, ty: Measured<Ty>) -> Result<Measured<Children<Ty>>, A
 }
 
 /// Whether an atomic type begins so, or a name that is none.
-pub(crate) fn begins_type(kind: Kind) -> bool {
+fn begins_type(kind: Kind) -> bool {
     matches!(
         kind,
         Kind::Variable

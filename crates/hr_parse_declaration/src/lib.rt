@@ -2,6 +2,7 @@
 //! 4.4.2, 5.1 to 5.3.
 #![tactic(auto)]
 
+mod closing;
 mod constructions;
 mod exports;
 mod fixities;
@@ -14,6 +15,7 @@ mod signatures;
 mod stated;
 mod types;
 
+pub use closing::closes_in_variable;
 pub use exports::header;
 pub use fixities::fixity;
 pub use imports::import;

@@ -5,7 +5,7 @@ ghost use Rattle.hr_parse_declaration.specs.Lists.{ReadsPhrase};
 ghost use Rattle.hr_parse_declaration.specs.Stated.{ReadsConstructions, ReadsDecl};
 ghost use Rattle.hr_grammar_cases.specs.Declarations.{type_head_reading};
 
-use crate::constructions::{begins_type, construction, new_construction};
+use crate::constructions::{construction, new_construction};
 use crate::stated::{Stated, state};
 use hr_base::{Ending, Seq};
 use hr_layout::Cursor;
@@ -13,7 +13,7 @@ use hr_parse_lexeme::{
     Held, Kind, Mark, Measured, Notes, Sort, Stop, accept, accept_sort, expect, expect_sort,
     kind_ahead,
 };
-use hr_parse_type::whole_type;
+use hr_parse_type::{is_argument_next, whole_type};
 use hr_tree::{Construction, Decl, Listed, TypeHead};
 use std::alloc::Global;
 
@@ -136,7 +136,7 @@ fn type_head(alloc: Global, cursor: &mut Cursor) -> Result<TypeHead, Stop>
     let mut list = Vec::new(alloc);
     loop {
         let Some(variable) = accept_sort(cursor, Sort::Variable) else {
-            if !list.is_empty() && begins_type(kind_ahead(cursor)) {
+            if !list.is_empty() && is_argument_next(cursor) {
                 return Err(Stop::LeftOut);
             }
             let variables = Seq { list };

@@ -3,6 +3,7 @@
 //! waits for the part stands on a stack. So a text may nest as deep as it likes, and each reader is proved alone.
 
 use crate::stack::Stack;
+use hr_base::Pos;
 use hr_layout::Cursor;
 use hr_parse_blocks::{
     alternatives, behind_alternative, behind_declaration, behind_siding, next_alternative,
@@ -14,24 +15,49 @@ use hr_parse_operands::{
     atom, begin_sequence, behind_argument, behind_form, behind_head, behind_operand, body_of_let,
     operand,
 };
-use hr_parse_parts::{Blocked, Frame, Goal, Step, Value, declarations_of, go};
+use hr_parse_parts::{
+    Blocked, Frame, Goal, Step, Value, declarations_of, ends_in_type_variable, go,
+};
+use hr_parse_type::is_argument_next;
 use hr_tree::Decl;
 use std::alloc::Global;
 
 /// No text has so many lexemes.
 const STEPS: u64 = u64::MAX;
 
-/// Reads what the goal says.
+/// Where no lexeme stands.
+const NOWHERE: Pos = Pos { line: 0, col: 0 };
+
+/// Reads what the goal says, behind which nothing stands.
 fn read(alloc: Global, cursor: &mut Cursor, notes: &mut Notes, goal: Goal) -> Result<Value, Stop> {
     let mut stack = Stack::new(alloc);
     let mut step = go(goal);
+    let mut variable = NOWHERE;
     for _ in 0..STEPS {
-        match follow(alloc, cursor, notes, &mut stack, step)? {
-            Turn::End(value) => return Ok(value.take()),
-            Turn::Step(next) => step = next,
+        if ends_in_type_variable(&step) {
+            variable = cursor.pos();
+        }
+        match follow(alloc, cursor, notes, &mut stack, step) {
+            Err(stop) => return Err(behind_variable(cursor, variable, stop)),
+            Ok(Turn::End(value)) => {
+                if cursor.peek().is_some() {
+                    return Err(behind_variable(cursor, variable, Stop::Syntax));
+                }
+                return Ok(value.take());
+            }
+            Ok(Turn::Step(next)) => step = next,
         }
     }
     Err(Stop::Syntax)
+}
+
+/// Why no tree goes on, where the last type variable that ended a type stands before the position: what could be its
+/// argument is left out of the language.
+fn behind_variable(cursor: &Cursor, variable: Pos, stop: Stop) -> Stop {
+    match stop {
+        Stop::Syntax if variable == cursor.pos() && is_argument_next(cursor) => Stop::LeftOut,
+        _ => stop,
+    }
 }
 
 /// What comes of a step: the next one, or what was read in the end.
@@ -71,7 +97,7 @@ fn follow(
 /// Begins what is read next.
 fn begin(alloc: Global, cursor: &mut Cursor, notes: &mut Notes, goal: Goal) -> Result<Step, Stop> {
     match goal {
-        Goal::Sequence(place, minus) => Ok(begin_sequence(alloc, cursor, place, minus)),
+        Goal::Sequence(place, minus) => begin_sequence(alloc, cursor, place, minus),
         Goal::Operand(place) => operand(alloc, cursor, notes, place),
         Goal::Atom(depth, may_bind) => atom(alloc, cursor, notes, depth, may_bind),
         Goal::Declarations(depth, is_body) => open_declarations(alloc, cursor, depth, is_body),
@@ -113,15 +139,13 @@ fn behind(
     }
 }
 
-/// A block of declarations, below a node whose nesting is `depth`: a module's body, or what stands behind `let` or
-/// `where`.
+/// A module's body, below a node whose nesting is `depth`. Nothing stands behind it.
 pub fn declarations(
     alloc: Global,
     cursor: &mut Cursor,
     notes: &mut Notes,
     depth: u32,
-    is_body: bool,
 ) -> Result<Blocked<Decl>, Stop> {
-    let value = read(alloc, cursor, notes, Goal::Declarations(depth, is_body))?;
+    let value = read(alloc, cursor, notes, Goal::Declarations(depth, true))?;
     declarations_of(Held::new(value))
 }

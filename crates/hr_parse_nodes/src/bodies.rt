@@ -115,7 +115,8 @@ pub fn guarded(guards: Guards) -> Whole
 pub fn side(whole: Whole, ending: Ending) -> Side
     ensures { result ≡ record { body = whole.body; locals = None; height = whole.height; ending = ending } }
 {
-    let Whole { body, height } = whole;
+    let height = whole.height;
+    let Whole { body, .. } = whole;
     Side {
         body,
         locals: None,

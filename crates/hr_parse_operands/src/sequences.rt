@@ -1,4 +1,5 @@
 //! Infix sequences, with `::` and a type behind them: the Haskell 98 Report, sections 3, 3.4 and 3.16.
+ghost use Rattle.std.specs.Prelude.{◌≡◌, None};
 
 use hr_base::Item;
 use hr_layout::Cursor;
@@ -22,8 +23,8 @@ pub fn begin_sequence(
     cursor: &mut Cursor,
     place: Place,
     minus: Option<Item>,
-) -> Step {
-    let minus = minus_before(cursor, minus);
+) -> Result<Step, Stop> {
+    let minus = minus_before(cursor, place, minus)?;
     let may_bind = place.may_bind && may_negate(cursor, &minus);
     let first = first_place(place, &minus).binding(may_bind);
     let sequence = Sequence {
@@ -32,14 +33,23 @@ pub fn begin_sequence(
         twins: no_operands(alloc, may_bind),
         minus,
     };
-    wait(Frame::Operand(Held::new(sequence)), Goal::Operand(first))
+    Ok(wait(Frame::Operand(Held::new(sequence)), Goal::Operand(first)))
 }
 
-/// The minus that was taken, or is there.
-fn minus_before(cursor: &mut Cursor, minus: Option<Item>) -> Option<Item> {
+/// The minus that was taken, or is there. It makes a node of the operand behind it, but in a pattern.
+fn minus_before(
+    cursor: &mut Cursor,
+    place: Place,
+    minus: Option<Item>,
+) -> Result<Option<Item>, Stop> {
     match minus {
-        None => accept(cursor, Mark::Minus),
-        Some(minus) => Some(minus),
+        None => {
+            if !place.may_bind && is_next(cursor, Mark::Minus) {
+                nest(below(place.depth), 1)?;
+            }
+            Ok(accept(cursor, Mark::Minus))
+        }
+        Some(minus) => Ok(Some(minus)),
     }
 }
 
@@ -49,7 +59,9 @@ fn may_negate(cursor: &Cursor, minus: &Option<Item>) -> bool {
 }
 
 /// An operand alone is no sequence, and stands one node less deep.
-fn first_place(place: Place, minus: &Option<Item>) -> Place {
+fn first_place(place: Place, minus: &Option<Item>) -> Place
+    ensures { minus.now ≡ None → result ≡ place }
+{
     match minus {
         None => place,
         Some(_) => place.deeper(),

@@ -112,10 +112,6 @@ abbrev pub opening_kind : Bool → BlockKind
 opening_kind true = BlockKind.Body
 opening_kind false = BlockKind.Declarations
 
-abbrev pub first_position : Bool → Position
-first_position true = Position.First
-first_position false = Position.Local
-
 -- an alternative
 abbrev pub ReadsAlt : Stated Alt → Standing → Standing → Type 0
 ReadsAlt stated = Consumes stated.height (λ below n. below.alt n stated.tree stated.ending)

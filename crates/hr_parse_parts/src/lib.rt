@@ -28,8 +28,8 @@ pub use starts::{
 };
 pub use steps::{
     Frame, Goal, Mixed, Step, Value, alternatives_of, declarations_of, done_alternatives,
-    done_declarations, done_expression, done_pattern, done_side, expression, go, mixed_of, side_of,
-    wait,
+    done_declarations, done_expression, done_pattern, done_side, ends_in_type_variable, expression,
+    go, mixed_of, side_of, wait,
 };
 pub use twins::{
     Applied, Twin, applied_of, bound_twin, group_of, head_of, is_named, list_of, literal_twin,

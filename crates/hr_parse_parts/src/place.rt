@@ -1,5 +1,5 @@
 //! Where an expression stands.
-ghost use Rattle.std.specs.Prelude.{◌≡◌};
+ghost use Rattle.std.specs.Prelude.{◌≡◌, false};
 ghost use Rattle.hr_parse_parts.specs.declared.place.Annotations.{Annotations};
 ghost use Rattle.hr_parse_parts.specs.Places.{inner_of};
 
@@ -31,7 +31,7 @@ pub struct Place {
 
 impl Place {
     fn at(depth: u32, annotations: Annotations, has_section: bool) -> Place
-        ensures { result.annotations ≡ annotations }
+        ensures { result ≡ record { depth = depth; annotations = annotations; has_section = has_section; may_bind = false } }
     {
         Place {
             depth,

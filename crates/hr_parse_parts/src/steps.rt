@@ -13,9 +13,11 @@ use crate::pieces::Blocked;
 use crate::place::Place;
 use crate::read::Read;
 use hr_base::Item;
+use hr_parse_declaration::closes_in_variable;
 use hr_parse_lexeme::{Held, Mark, Stop};
 use hr_parse_pattern::Part;
-use hr_tree::{Alt, Decl, Pat};
+use hr_parse_type::ends_in_variable;
+use hr_tree::{Alt, Decl, Exp, Pat, Piece};
 
 /// What is read next.
 #[derive(Drop)]
@@ -174,5 +176,34 @@ pub fn side_of(value: Held<Value>) -> Result<Side, Stop>
     match value.take() {
         Value::Side(side) => Ok(side.take()),
         _ => Err(Stop::Syntax),
+    }
+}
+
+/// Whether the last lexeme that was read is the variable at the end of a type.
+pub fn ends_in_type_variable(step: &Step) -> bool {
+    match step {
+        Step::Done(value) => value_ends(value.get()),
+        Step::Read(goal) => goal_ends(goal.get()),
+        Step::Wait(_, _) => false,
+    }
+}
+
+fn value_ends(value: &Value) -> bool {
+    match value {
+        Value::Expression(read) => match read.get().tree.get() {
+            Exp::Annotated(_, _, ty) => ends_in_variable(ty),
+            _ => false,
+        },
+        _ => false,
+    }
+}
+
+fn goal_ends(goal: &Goal) -> bool {
+    match goal {
+        Goal::Declaration(block) => match block.get().pieces.list.as_slice().last() {
+            Some(Piece::Part(decl)) => closes_in_variable(decl),
+            _ => false,
+        },
+        _ => false,
     }
 }

@@ -7,6 +7,7 @@ ghost use Rattle.hr_parse_lexeme.specs.Reads.{Consumes};
 ghost use Rattle.hr_parse_lexeme.specs.declared.mark.Mark.{Mark};
 ghost use Rattle.hr_parse_type.specs.Heads.{head_height, OpensType, ReadsArguments, ReadsHead, ReadsTy, ReadsTypes};
 
+use crate::arguments::{is_variable, last_is_variable, refuse_argument};
 use crate::nodes::{Head, Parts, applied, atom, closed, function, list};
 use hr_layout::Cursor;
 use hr_parse_lexeme::{
@@ -60,7 +61,7 @@ pub fn applied_type(alloc: Global, cursor: &mut Cursor, depth: u32) -> Result<Me
         }
         Head::Atom(ty) => {
             if is_variable(ty.tree.get()) {
-                refuse_argument(cursor)?;
+                refuse_next(cursor)?;
             }
             Ok(ty)
         }
@@ -97,8 +98,8 @@ pub(crate) fn arguments(
         tree.push(argument.take())?;
         height = levels.max(height);
     }
-    if ends_in_variable(tree.as_slice()) {
-        refuse_argument(cursor)?;
+    if last_is_variable(tree.as_slice()) {
+        refuse_next(cursor)?;
     }
     Ok(Measured {
         tree: Held::new(tree),
@@ -148,6 +149,7 @@ pub(crate) fn in_parentheses(
         Bracket::Constructor(named) => Ok(Head::Named(Held::new(named))),
         Bracket::Open(left) => {
             let parts = parts(alloc, cursor, depth + 1)?;
+            refuse_argument(cursor, parts.last.get())?;
             let right = expect(cursor, Mark::RightParen)?;
             Ok(Head::Atom(closed(alloc, left, parts, right)?))
         }
@@ -165,6 +167,7 @@ fn in_square(alloc: Global, cursor: &mut Cursor, depth: u32, bracket: Bracket) -
         Bracket::Constructor(named) => Ok(Head::Named(Held::new(named))),
         Bracket::Open(left) => {
             let part = whole_type(alloc, cursor, depth + 1)?;
+            refuse_argument(cursor, part.tree.get())?;
             let right = expect(cursor, Mark::RightSquare)?;
             Ok(Head::Atom(list(alloc, left, part, right)?))
         }
@@ -264,20 +267,9 @@ fn begins_type(kind: Kind) -> bool {
     )
 }
 
-fn ends_in_variable(types: &[Ty]) -> bool {
-    match types.last() {
-        Some(last) => is_variable(last),
-        None => false,
-    }
-}
-
-fn is_variable(ty: &Ty) -> bool {
-    matches!(ty, Ty::Variable(_))
-}
-
-/// Behind a type variable a lexeme that begins a name or a bracket would be its argument, which the language
-/// leaves out.
-fn refuse_argument(cursor: &Cursor) -> Result<(), Stop> {
+/// Behind a type variable a lexeme that goes on and begins a name or a bracket would be its argument, which the
+/// language leaves out.
+fn refuse_next(cursor: &Cursor) -> Result<(), Stop> {
     let kind = kind_ahead(cursor);
     if begins_type(kind) || matches!(kind, Kind::QualifiedVariable) {
         return Err(Stop::LeftOut);

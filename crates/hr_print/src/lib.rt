@@ -1,6 +1,8 @@
 //! The bytes of the draft of a module.
 #![tactic(auto)]
 
+ghost use Rattle.std.specs.Prelude.{◌≡◌, ◌≤◌, [], length, IfOk};
+
 use hr_blocks::blocks_of;
 use hr_draft::Draft;
 pub use hr_page::separated;
@@ -8,8 +10,10 @@ use hr_page::{Old, print_within};
 use hr_tree::{Module, items};
 use std::alloc::{AllocError, Global};
 
-/// The bytes of the draft of one of the modules.
-pub fn print(alloc: Global, old: &[Module], target: &Draft) -> Result<Vec<u8>, AllocError> {
+/// The bytes of the draft of one of the modules: none where it is of no module that there is.
+pub fn print(alloc: Global, old: &[Module], target: &Draft) -> Result<Vec<u8>, AllocError>
+    ensures of_no_module { length old.now ≤ target.now.module → IfOk result (λ bytes. bytes.items ≡ []) }
+{
     let Some(tree) = old.get(target.module) else {
         return Ok(Vec::new(alloc));
     };

@@ -53,7 +53,7 @@ fn next_piece(rest: &[u8]) -> Option<(Piece<'_>, &[u8])>
             Some((Piece::Byte(byte), tail))
         }
         [b'\\', b'0'..=b'9', ..] => repetition(rest.split_at(1).1),
-        [b'\\', letter, tail @ ..] => Some((Piece::Byte(escaped(*letter)?), tail)),
+        [b'\\', letter, tail @ ..] => Some((Piece::Byte(unescaped(*letter)?), tail)),
         [byte, tail @ ..] => Some((Piece::Byte(*byte), tail)),
     }
 }
@@ -102,7 +102,7 @@ fn hex_digit(digit: u8) -> Option<u8>
 }
 
 /// The byte that a backslash and a letter stand for.
-fn escaped(letter: u8) -> Option<u8> {
+fn unescaped(letter: u8) -> Option<u8> {
     match letter {
         b'n' => Some(10),
         b'r' => Some(13),

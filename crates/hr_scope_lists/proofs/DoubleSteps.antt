@@ -11,7 +11,7 @@ use Rattle.hr_scope_rules.specs.declared.role.Role.{Role}
 use Rattle.hr_scope_rules.specs.Regions.{Placed}
 use Rattle.hr_scope_rules.specs.Doubles.{IsOnce, AreDouble, IsFirstDouble}
 use Rattle.hr_scope_lists.specs.Found.{same_regions}
-use Rattle.hr_scope_lists.specs.Doubles.{same_once, are_double, behind, first_of, pair_or, double_behind, first_double}
+use Rattle.hr_scope_lists.specs.Doubles.{same_once, are_double, one_later, first_of, pair_or, double_behind, first_double}
 use Rattle.hr_scope_lists.proofs.Members.{same_some}
 use Rattle.hr_scope_lists.proofs.Tests.{space_decides}
 use Rattle.hr_scope_lists.proofs.RegionSteps.{regions_decide}
@@ -122,7 +122,7 @@ pub record FirstOf (mark : Placed) (marks : List Placed) (number : ℕ) : Type 0
   pub repeats : Repeats one mark
   pub first : (k : ℕ) (other : Placed) → k < number → slice_get marks k ≡ Some other → Repeats other mark → ⊥
 
-behind_some : (o : Option ℕ) (number : ℕ) → behind o ≡ Some number → (k : ℕ) × (o ≡ Some k) × (suc k ≡ number)
+behind_some : (o : Option ℕ) (number : ℕ) → one_later o ≡ Some number → (k : ℕ) × (o ≡ Some k) × (suc k ≡ number)
 behind_some None number e = let clash : ◌≡◌ {A = Option ℕ} None (Some number) = e in cc
 behind_some (Some k) number e = (k, refl, same_some (suc k) number e)
 
@@ -144,7 +144,7 @@ first_is mark (one ∷ rest) number e = by (are_double one mark) refl e (λ k is
             true≢false (sym ((repeats_decides one mark).1 (subst (λ p. Repeats p mark) (sym same) r)) ∙ no_first)
         earlier (suc j) other within at r = f.first j other (omega arith) at r
 
-    by : (b : Bool) → are_double one mark ≡ b → ◌≡◌ {A = Option ℕ} (if b then Some 0 else behind (first_of mark rest)) (Some number)
+    by : (b : Bool) → are_double one mark ≡ b → ◌≡◌ {A = Option ℕ} (if b then Some 0 else one_later (first_of mark rest)) (Some number)
         → ((k : ℕ) → first_of mark rest ≡ Some k → FirstOf mark rest k) → FirstOf mark (one ∷ rest) number
     by true test is below =
         let zero_is : 0 ≡ number = same_some 0 number is in
@@ -162,11 +162,11 @@ none_first : (mark : Placed) (marks : List Placed) → first_of mark marks ≡ N
 none_first mark [] e k other at r = let clash : ◌≡◌ {A = Option Placed} None (Some other) = at in cc
 none_first mark (one ∷ rest) e k other at r = by (are_double one mark) refl e k at (λ is j at. none_first mark rest is j other at r)
   where
-    behind_none : (o : Option ℕ) → behind o ≡ None → o ≡ None
+    behind_none : (o : Option ℕ) → one_later o ≡ None → o ≡ None
     behind_none None e = refl
     behind_none (Some number) e = let clash : ◌≡◌ {A = Option ℕ} (Some (suc number)) None = e in cc
 
-    by : (b : Bool) → are_double one mark ≡ b → ◌≡◌ {A = Option ℕ} (if b then Some 0 else behind (first_of mark rest)) None
+    by : (b : Bool) → are_double one mark ≡ b → ◌≡◌ {A = Option ℕ} (if b then Some 0 else one_later (first_of mark rest)) None
         → (k : ℕ) → slice_get (one ∷ rest) k ≡ Some other → (first_of mark rest ≡ None → (j : ℕ) → slice_get rest j ≡ Some other → ⊥) → ⊥
     by true test is k at below = let clash : ◌≡◌ {A = Option ℕ} (Some 0) None = is in cc
     by false test is zero at below =

@@ -17,14 +17,14 @@ same_once _ _ = false
 abbrev pub are_double : Placed → Placed → Bool
 are_double one other = same_once one.role other.role && (same_regions one.regions other.regions && bytes_eq one.item.lexeme.text other.item.lexeme.text)
 
-abbrev pub behind : Option ℕ → Option ℕ
-behind None = None
-behind (Some number) = Some (suc number)
+abbrev pub one_later : Option ℕ → Option ℕ
+one_later None = None
+one_later (Some number) = Some (suc number)
 
 -- the number of the first lexeme that the other one repeats
 abbrev pub first_of : Placed → List Placed → Option ℕ
 first_of mark [] = None
-first_of mark (one ∷ rest) = if are_double one mark then Some 0 else behind (first_of mark rest)
+first_of mark (one ∷ rest) = if are_double one mark then Some 0 else one_later (first_of mark rest)
 
 abbrev pub pair_or : Option ℕ → ℕ → Option (ℕ × ℕ) → Option (ℕ × ℕ)
 pair_or None number later = later

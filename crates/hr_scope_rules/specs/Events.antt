@@ -104,5 +104,5 @@ read_all = fold after nothing_read
 abbrev pub plain : Item → Event
 plain = Event.Lexeme Naming.Plain
 
-abbrev pub bare : List Item → List Event
-bare items = map plain items
+abbrev pub plain_events : List Item → List Event
+plain_events items = map plain items

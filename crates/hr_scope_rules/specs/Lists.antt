@@ -15,7 +15,7 @@ use Rattle.hr_tree.specs.declared.modules.Imported.{Imported}
 use Rattle.hr_tree.specs.declared.modules.Header.{Header}
 use Rattle.hr_tree.specs.Yields.{maybe_alias}
 use Rattle.hr_scope_rules.specs.declared.naming.Naming.{Naming}
-use Rattle.hr_scope_rules.specs.Events.{Event, plain, bare}
+use Rattle.hr_scope_rules.specs.Events.{Event, plain, plain_events}
 use Rattle.hr_scope_rules.specs.Phrases.{variable_events, constructor_events, listed_events, maybe_events}
 
 -- a field stands as a constructor does that is named with the type
@@ -55,7 +55,7 @@ import_names_events (Some names) = listing_events names.hiding names.list
 abbrev pub import_events : Import → List Event
 import_events import =
     plain import.word ∷ (maybe_events import.qualified ++ Event.Begin ∷ plain import.«module»
-    ∷ (bare (maybe_alias import.alias) ++ (import_names_events import.names ++ Event.End ∷ [])))
+    ∷ (plain_events (maybe_alias import.alias) ++ (import_names_events import.names ++ Event.End ∷ [])))
 
 abbrev pub exports_events : Option (NameList Export) → List Event
 exports_events None = []

@@ -25,7 +25,7 @@ use Rattle.hr_tree.specs.declared.modules.Module.{Module}
 use Rattle.hr_tree.specs.Lists.{opening_items, closing_items}
 use Rattle.hr_scope_rules.specs.declared.naming.Naming.{Naming}
 use Rattle.hr_scope_rules.specs.declared.joint.Joint.{Joint}
-use Rattle.hr_scope_rules.specs.Events.{Event, Outlined, read_all, plain, bare}
+use Rattle.hr_scope_rules.specs.Events.{Event, Outlined, read_all, plain, plain_events}
 use Rattle.hr_scope_rules.specs.Phrases.{variable_events, constructor_events, operator_events, variable_text, operator_text, listed_events, maybe_events, done, sequence_events, field_events, ty_events, pat_events}
 use Rattle.hr_scope_rules.specs.Lists.{import_events, header_events}
 
@@ -69,14 +69,14 @@ pieces_events of before [] = []
 pieces_events of before (piece ∷ rest) = piece_events of before piece ++ pieces_events of (passed of before piece) rest
 
 abbrev pub block_events : {T : Type 0} → (T → Declared) → Block T → List Event
-block_events of block = bare (opening_items block.layout) ++ (pieces_events of None block.pieces ++ bare (closing_items block.layout))
+block_events of block = plain_events (opening_items block.layout) ++ (pieces_events of None block.pieces ++ plain_events (closing_items block.layout))
 
 abbrev pub alternative_events : {T : Type 0} → (T → List Event) → Piece T → List Event
 alternative_events of (Piece.Semicolon item) = plain item ∷ []
 alternative_events of (Piece.Part part) = of part
 
 abbrev pub alternatives_events : {T : Type 0} → (T → List Event) → Block T → List Event
-alternatives_events of block = bare (opening_items block.layout) ++ (flat_map (alternative_events of) block.pieces ++ bare (closing_items block.layout))
+alternatives_events of block = plain_events (opening_items block.layout) ++ (flat_map (alternative_events of) block.pieces ++ plain_events (closing_items block.layout))
 
 abbrev pub guarded_events : {T : Type 0} → (T → List Event) → Guarded T → List Event
 guarded_events of guarded = plain guarded.bar ∷ (of guarded.guard ++ plain guarded.mark ∷ of guarded.body)
@@ -122,7 +122,7 @@ abbrev pub closed_events : Closed → List Event
 closed_events closed = plain closed.right ∷ flat_map pat_events closed.patterns
 
 abbrev pub left_side_events : Naming → LeftSide → List Event
-left_side_events naming left = bare left.opens ++ (left_head_events naming left.head ++ flat_map closed_events left.closes)
+left_side_events naming left = plain_events left.opens ++ (left_head_events naming left.head ++ flat_map closed_events left.closes)
 
 abbrev pub head_text : LeftHead → List ℕ
 head_text (LeftHead.Prefix variable patterns) = variable_text variable

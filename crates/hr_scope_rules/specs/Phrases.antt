@@ -17,7 +17,7 @@ use Rattle.hr_tree.specs.declared.patterns.Pat.TheFolds.{fold-Pat}
 use Rattle.hr_tree.specs.Names.{maybe_item}
 use Rattle.hr_scope_rules.specs.declared.naming.Naming.{Naming}
 use Rattle.hr_scope_rules.specs.declared.joint.Joint.{Joint}
-use Rattle.hr_scope_rules.specs.Events.{Event, plain, bare}
+use Rattle.hr_scope_rules.specs.Events.{Event, plain, plain_events}
 
 -- a name or an operator, given how the lexeme stands that is its name
 abbrev pub variable_events : Naming → Variable → List Event
@@ -29,14 +29,14 @@ constructor_events naming (Constructor.Name name) = Event.Lexeme naming name ∷
 constructor_events naming (Constructor.Symbol left symbol right) = plain left ∷ Event.Lexeme naming symbol ∷ plain right ∷ []
 constructor_events naming (Constructor.Unit left right) = plain left ∷ plain right ∷ []
 constructor_events naming (Constructor.EmptyList left right) = plain left ∷ plain right ∷ []
-constructor_events naming (Constructor.Tuple left commas right) = plain left ∷ (bare commas ++ plain right ∷ [])
+constructor_events naming (Constructor.Tuple left commas right) = plain left ∷ (plain_events commas ++ plain right ∷ [])
 
 abbrev pub operator_events : Naming → Operator → List Event
 operator_events naming (Operator.Symbol symbol) = Event.Lexeme naming symbol ∷ []
 operator_events naming (Operator.Quoted left name right) = plain left ∷ Event.Lexeme naming name ∷ plain right ∷ []
 
 abbrev pub maybe_events : Option Item → List Event
-maybe_events item = bare (maybe_item item)
+maybe_events item = plain_events (maybe_item item)
 
 -- what joins an operand of an infix sequence to the next one
 abbrev pub joining_events : Option Operator → List Event

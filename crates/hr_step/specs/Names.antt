@@ -50,9 +50,9 @@ abbrev pub is_of : Draft → ℕ → Bool
 is_of draft «module» = draft.«module» == «module»
 
 -- the drafts, which are in the order of the modules, behind that of the module, if it has one
-abbrev pub behind : List Draft → ℕ → List Draft
-behind [] «module» = []
-behind (draft ∷ drafts) «module» = if is_of draft «module» then drafts else draft ∷ drafts
+abbrev pub drafts_behind : List Draft → ℕ → List Draft
+drafts_behind [] «module» = []
+drafts_behind (draft ∷ drafts) «module» = if is_of draft «module» then drafts else draft ∷ drafts
 
 -- the numbers of a module that has a draft
 abbrev pub numbers_in : ℕ → List Draft → ℕ → Option (List (Option ℕ))
@@ -62,7 +62,7 @@ numbers_in «module» (draft ∷ drafts) lexemes = if is_of draft «module» the
 abbrev pub targets_from : ℕ → List Draft → List (List (Option Binder)) → List (Option (List (Option ℕ)))
 targets_from «module» drafts [] = []
 targets_from «module» drafts (entries ∷ old) =
-    numbers_in «module» drafts (length entries) ∷ targets_from («module» + 1) (behind drafts «module») old
+    numbers_in «module» drafts (length entries) ∷ targets_from («module» + 1) (drafts_behind drafts «module») old
 
 abbrev pub number_at : Option (Option ℕ) → Option ℕ
 number_at None = None
@@ -158,7 +158,7 @@ or_else (Some found) next = Some found
 abbrev pub first_from : Judged → ℕ → List Draft → List (List (Option Binder)) → Option Rebound
 first_from judged «module» drafts [] = None
 first_from judged «module» drafts (entries ∷ new) =
-    or_else (first_in_module judged «module» drafts entries) (first_from judged («module» + 1) (behind drafts «module») new)
+    or_else (first_in_module judged «module» drafts entries) (first_from judged («module» + 1) (drafts_behind drafts «module») new)
 
 -- the first kept lexeme, in the order of the target, that isn't bound to the image of its old binder
 abbrev pub first_rebound : List Draft → List (Entity × Entity) → List (List (Option Binder)) → List (List (Option Binder)) → List (List (Option Binder)) → Option Rebound

@@ -1,6 +1,6 @@
 //! Whether names are bound as meant.
 ghost use Rattle.std.specs.Prelude.{◌≡◌, IfOk, option_copied, slice_get};
-ghost use Rattle.hr_step.specs.Names.{behind, binder_at, first_from, first_in_draft, first_in_module, first_in_place, first_rebound, has_image, in_module, is_image, is_meant, is_spot, judged, lexeme_at, number_at, numbered, numbers_in, origin, partner, target_numbers, target_spot, targets_from};
+ghost use Rattle.hr_step.specs.Names.{drafts_behind, binder_at, first_from, first_in_draft, first_in_module, first_in_place, first_rebound, has_image, in_module, is_image, is_meant, is_spot, judged, lexeme_at, number_at, numbered, numbers_in, origin, partner, target_numbers, target_spot, targets_from};
 
 use crate::kept::kept_number;
 use hr_base::{Binder, Entity, Seq, Spot};
@@ -98,14 +98,14 @@ fn first_of(judge: Judge, drafts: &[Draft], new: &Bindings) -> Option<Rebound>
         if let Some(rebound) = first_in_module(judge, module, left, entries.as_slice()) {
             return Some(rebound);
         }
-        left = behind(left, module);
+        left = drafts_behind(left, module);
     }
     None
 }
 
 /// The drafts behind that of the module, if it has one.
-fn behind(drafts: &[Draft], module: usize) -> &[Draft]
-    ensures { result.now ≡ behind drafts.now «module» }
+fn drafts_behind(drafts: &[Draft], module: usize) -> &[Draft]
+    ensures { result.now ≡ drafts_behind drafts.now «module» }
 {
     match drafts {
         [draft, rest @ ..] => {
@@ -128,7 +128,7 @@ fn targets_of(alloc: Global, drafts: &[Draft], old: &Bindings) -> Result<Vec<Num
     let mut left = drafts;
     for (module, entries) in old.modules.as_slice().iter().enumerate() {
         targets.push(numbers_in(alloc, module, left, entries.len())?)?;
-        left = behind(left, module);
+        left = drafts_behind(left, module);
     }
     Ok(targets)
 }
