@@ -1,6 +1,6 @@
 //! Blocks of declarations and of alternatives, a piece a step.
 ghost use Rattle.std.specs.Prelude.{IfOk, true, ◌≡◌};
-ghost use Rattle.hr_layout.specs.Standing.{Standing};
+ghost use Rattle.hr_layout.specs.Standing.{Standing, opened_as, opening};
 ghost use Rattle.hr_parse_lexeme.specs.declared.mark.Mark.{Mark};
 ghost use Rattle.hr_parse_declaration.specs.Stated.{ReadsDecl};
 ghost use Rattle.hr_parse_parts.specs.Blocks.{Begins, BeginsAlt, BeginsDecl, ReadsAlt, ReadsAlts, ReadsDecls, WaitsAlt, WaitsDecl, opening_kind};
@@ -9,7 +9,7 @@ ghost use Rattle.hr_parse_parts.specs.Steps.{IsOpening, ReadsValue, Steps, Wante
 ghost use Rattle.hr_parse_blocks.specs.Positions.{first_position};
 
 use crate::heads::{Found, declaration, position_behind, stated_by};
-use hr_layout::Cursor;
+use hr_layout::{Cursor, Opened};
 use hr_parse_declaration::Stated;
 use hr_parse_lexeme::{Held, Mark, Notes, Stop, kind_ahead, nest};
 use hr_parse_nodes::bodies;
@@ -59,13 +59,21 @@ fn first_position(is_body: bool) -> Position
 fn started(cursor: &mut Cursor, depth: u32, is_body: bool) -> Result<Start, Stop>
     ensures { IfOk result (λ start. IsOpening is_body cursor.old → Begins (opening_kind is_body) start cursor.old cursor.new) }
 {
-    let opened = if is_body {
-        cursor.open_body()?
-    } else {
-        cursor.open()?
-    };
+    let opened = opened(cursor, is_body)?;
     fits(cursor, depth, opened)?;
     opened_by(cursor, opened)
+}
+
+/// How a block of declarations opens.
+fn opened(cursor: &mut Cursor, is_body: bool) -> Result<Opened, AllocError>
+    ensures how { IfOk result (λ how. how ≡ opening cursor.old) }
+    ensures opens { IfOk result (λ how. IsOpening is_body cursor.old → cursor.new ≡ opened_as (opening_kind is_body) cursor.old) }
+{
+    if is_body {
+        cursor.open_body()
+    } else {
+        cursor.open()
+    }
 }
 
 /// The next piece of a block of declarations, or its end.

@@ -1,4 +1,4 @@
-use Rattle.std.proofs.Common.{ap, sym}
+use Rattle.std.proofs.Common.{length, ap, sym, arith}
 use Rattle.hr_grammar.specs.Nodes.{PatPlace}
 use Rattle.hr_parse_left.specs.Fronts.{reached_height}
 use Rattle.hr_parse_left.proofs.Fronts.{at_reached, left_whole, named_whole, pattern_whole}
@@ -20,7 +20,7 @@ returns-in_ok-none_open-in-Pattern-clause-height c = sym (ap reached_height c.in
 
 pub returns-in_ok-as_many-in-Left-clause-reads : goal.returns-in_ok-as_many-in-Left-clause-reads
 returns-in_ok-as_many-in-Left-clause-reads c =
-    λ before after h. left_whole c.args.level.opens c.in-Left.left c.in_ok-as_many-in-Left.ensures c.take-in-Left.ensures h.opens (at_reached PatPlace.Whole h.middle after c.in-Left.is h.reached)
+    λ before after h. left_whole c.args.level.opens c.in-Left.left (omega (arith, c.len.ensures, c.in_ok-as_many-in-Left.ensures, c.len-in-Left.ensures, ap length c.opens-in-Left.view_is, ap length c.closes.view_is)) c.take-in-Left.ensures h.opens (at_reached PatPlace.Whole h.middle after c.in-Left.is h.reached)
 
 pub returns-in_ok-as_many-in-Left-clause-height : goal.returns-in_ok-as_many-in-Left-clause-height
 returns-in_ok-as_many-in-Left-clause-height c = sym (ap reached_height c.in-Left.is)
