@@ -1,18 +1,5 @@
 //! Declarations: the Haskell 98 Report, chapter 4.
-ghost use Rattle.std.specs.Prelude.{IfOk, true, ◌≡◌, ◌≤◌};
-ghost use Rattle.hr_layout.specs.Standing.{Standing};
-ghost use Rattle.hr_tree.specs.Names.{variable_items};
-ghost use Rattle.hr_grammar.specs.Declarations.{takes_local};
-ghost use Rattle.hr_grammar.specs.Nodes.{DeclPlace};
-ghost use Rattle.hr_grammar.specs.Spelled.{IsVariable};
-ghost use Rattle.hr_grammar_cases.specs.Modules.{comes_behind};
-ghost use Rattle.hr_parse_declaration.specs.Stated.{ReadsDecl};
-ghost use Rattle.hr_parse_lexeme.specs.declared.mark.Mark.{Mark};
-ghost use Rattle.hr_parse_lexeme.specs.Reads.{Spells};
-ghost use Rattle.hr_parse_parts.specs.Blocks.{ReadsLeft, first_of, kind_of};
-ghost use Rattle.hr_parse_blocks.specs.Found.{ReadsFound};
-ghost use Rattle.hr_parse_parts.specs.Parts.{ReadsSide};
-ghost use Rattle.hr_parse_parts.specs.Places.{block_place, decl_place};
+ghost use Rattle.std.specs.Prelude.{◌≤◌};
 
 use hr_layout::Cursor;
 use hr_parse_declaration::{Stated, fixity, import, signature, type_declaration};
@@ -31,12 +18,7 @@ pub(crate) enum Found {
 }
 
 /// The position of a part that begins so: only imports stand before the other parts.
-pub(crate) fn position_behind(position: Position, kind: Kind) -> Position
-    ensures comes { comes_behind (decl_place position) (decl_place result) ≡ true }
-    ensures kind { kind_of result ≡ kind_of position }
-    ensures first { first_of result ≡ first_of position }
-    ensures block { block_place result ≡ block_place position }
-{
+pub(crate) fn position_behind(position: Position, kind: Kind) -> Position {
     match position {
         Position::First => match kind {
             Kind::Import => Position::First,
@@ -54,9 +36,7 @@ pub(crate) fn declaration(
     notes: &mut Notes,
     depth: u32,
     position: Position,
-) -> Result<Found, Stop>
-    ensures { IfOk result (λ found. ReadsFound (decl_place position) found cursor.old cursor.new) }
-{
+) -> Result<Found, Stop> {
     match position {
         Position::First => first(alloc, cursor, notes),
         Position::Top => top(alloc, cursor, notes, depth),
@@ -65,9 +45,7 @@ pub(crate) fn declaration(
 }
 
 /// An import, which alone stands before the other parts.
-fn first(alloc: Global, cursor: &mut Cursor, notes: &mut Notes) -> Result<Found, Stop>
-    ensures { IfOk result (λ found. ReadsFound DeclPlace.First found cursor.old cursor.new) }
-{
+fn first(alloc: Global, cursor: &mut Cursor, notes: &mut Notes) -> Result<Found, Stop> {
     match kind_ahead(cursor) {
         Kind::Import => {
             let stated = import(alloc, cursor, notes)?;
@@ -78,9 +56,7 @@ fn first(alloc: Global, cursor: &mut Cursor, notes: &mut Notes) -> Result<Found,
 }
 
 /// A declaration in a module's body.
-fn top(alloc: Global, cursor: &mut Cursor, notes: &mut Notes, depth: u32) -> Result<Found, Stop>
-    ensures { IfOk result (λ found. ReadsFound DeclPlace.Top found cursor.old cursor.new) }
-{
+fn top(alloc: Global, cursor: &mut Cursor, notes: &mut Notes, depth: u32) -> Result<Found, Stop> {
     match kind_ahead(cursor) {
         Kind::Type | Kind::Data | Kind::Newtype => {
             nest(depth, 1)?;
@@ -92,9 +68,7 @@ fn top(alloc: Global, cursor: &mut Cursor, notes: &mut Notes, depth: u32) -> Res
 }
 
 /// A declaration of any block.
-fn local(alloc: Global, cursor: &mut Cursor, notes: &mut Notes, depth: u32) -> Result<Found, Stop>
-    ensures { IfOk result (λ found. (place : DeclPlace) → takes_local place ≡ true → ReadsFound place found cursor.old cursor.new) }
-{
+fn local(alloc: Global, cursor: &mut Cursor, notes: &mut Notes, depth: u32) -> Result<Found, Stop> {
     let kind = kind_ahead(cursor);
     if !begins_declaration(kind) {
         return Err(Stop::Syntax);
@@ -112,7 +86,6 @@ fn local(alloc: Global, cursor: &mut Cursor, notes: &mut Notes, depth: u32) -> R
 /// A signature, or what stands before a right side. The nesting of the declaration is `depth`.
 fn valued(alloc: Global, cursor: &mut Cursor, notes: &mut Notes, depth: u32) -> Result<Found, Stop>
     requires { depth ≤ 256 }
-    ensures { IfOk result (λ found. (place : DeclPlace) → takes_local place ≡ true → ReadsFound place found cursor.old cursor.new) }
 {
     match beginning(alloc, cursor, notes, depth)? {
         Front::Variable(bound) => behind_variable(alloc, cursor, depth, Held::new(bound)),
@@ -129,7 +102,6 @@ fn behind_variable(
     bound: Held<Variable>,
 ) -> Result<Found, Stop>
     requires { depth ≤ 256 }
-    ensures { IfOk result (λ found. (place : DeclPlace) (before : Standing) → takes_local place ≡ true → Spells IsVariable variable_items bound before cursor.old → ReadsFound place found before cursor.new) }
 {
     match kind_ahead(cursor) {
         Kind::Comma | Kind::DoubleColon => {
@@ -146,9 +118,7 @@ fn behind_variable(
 }
 
 /// The declaration with its right side.
-pub(crate) fn stated_by(alloc: Global, left: Left, side: Side) -> Result<Stated<Decl>, Stop>
-    ensures { IfOk result (λ stated. (place : DeclPlace) (before middle after : Standing) → takes_local place ≡ true → ReadsLeft left before middle → ReadsSide Mark.Equals side middle after → ReadsDecl place stated before after) }
-{
+pub(crate) fn stated_by(alloc: Global, left: Left, side: Side) -> Result<Stated<Decl>, Stop> {
     match left {
         Left::Pattern(part) => {
             let stated = bodies::binding(alloc, part, side)?;

@@ -1,1 +1,1 @@
-pub mod Atoms
+pub mod Operators

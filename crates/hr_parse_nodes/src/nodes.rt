@@ -1,8 +1,4 @@
 //! The nodes of expressions, with their heights. Each is made and boxed in one step.
-ghost use Rattle.std.specs.Prelude.{IfOk, max, ◌+◌, ◌≡◌};
-ghost use Rattle.hr_tree.specs.declared.expressions.Exp.{Exp};
-ghost use Rattle.hr_parse_nodes.specs.Nodes.{condition_of, from_of, from_to_of, lambda_of, let_of, sequence_of};
-ghost use Rattle.hr_parse_parts.specs.Parts.{block_of};
 
 use hr_base::Item;
 use hr_parse_lexeme::{Held, Measured, Stop, nest};
@@ -13,9 +9,7 @@ use sqlite_items::Boxed;
 use std::alloc::Global;
 
 /// The node over parts with so many levels, which fit: what begins a node has shown it before.
-pub fn node(alloc: Global, exp: Exp, levels: u32) -> Result<Part<Exp>, Stop>
-    ensures { IfOk result (λ part. part ≡ record { tree = exp; height = levels + 1 }) }
-{
+pub fn node(alloc: Global, exp: Exp, levels: u32) -> Result<Part<Exp>, Stop> {
     let tree = Boxed::new(alloc, exp)?;
     nest(1, levels)?;
     Ok(Part {
@@ -24,9 +18,7 @@ pub fn node(alloc: Global, exp: Exp, levels: u32) -> Result<Part<Exp>, Stop>
     })
 }
 
-pub fn group(alloc: Global, left: Item, part: Part<Exp>, right: Item) -> Result<Part<Exp>, Stop>
-    ensures { IfOk result (λ made. made ≡ record { tree = Exp.Group left part.tree right; height = part.height + 1 }) }
-{
+pub fn group(alloc: Global, left: Item, part: Part<Exp>, right: Item) -> Result<Part<Exp>, Stop> {
     let Part { tree, height } = part;
     node(alloc, Exp::Group(left, tree, right), height)
 }
@@ -37,9 +29,7 @@ pub fn left_section(
     part: Part<Exp>,
     operator: Held<Operator>,
     right: Item,
-) -> Result<Part<Exp>, Stop>
-    ensures { IfOk result (λ made. made ≡ record { tree = Exp.LeftSection left part.tree operator right; height = part.height + 1 }) }
-{
+) -> Result<Part<Exp>, Stop> {
     let Part { tree, height } = part;
     node(
         alloc,
@@ -54,9 +44,7 @@ pub fn right_section(
     operator: Held<Operator>,
     part: Part<Exp>,
     right: Item,
-) -> Result<Part<Exp>, Stop>
-    ensures { IfOk result (λ made. made ≡ record { tree = Exp.RightSection left operator part.tree right; height = part.height + 1 }) }
-{
+) -> Result<Part<Exp>, Stop> {
     let Part { tree, height } = part;
     node(
         alloc,
@@ -65,24 +53,18 @@ pub fn right_section(
     )
 }
 
-pub fn tuple(alloc: Global, left: Item, parts: Parts<Exp>, right: Item) -> Result<Part<Exp>, Stop>
-    ensures { IfOk result (λ made. made ≡ record { tree = Exp.Tuple left parts.list right; height = parts.height + 1 }) }
-{
+pub fn tuple(alloc: Global, left: Item, parts: Parts<Exp>, right: Item) -> Result<Part<Exp>, Stop> {
     let Parts { list, height } = parts;
     node(alloc, Exp::Tuple(left, list, right), height)
 }
 
-pub fn list(alloc: Global, left: Item, parts: Parts<Exp>, right: Item) -> Result<Part<Exp>, Stop>
-    ensures { IfOk result (λ made. made ≡ record { tree = Exp.List left parts.list right; height = parts.height + 1 }) }
-{
+pub fn list(alloc: Global, left: Item, parts: Parts<Exp>, right: Item) -> Result<Part<Exp>, Stop> {
     let Parts { list, height } = parts;
     node(alloc, Exp::List(left, list, right), height)
 }
 
 /// `[a ..]` or `[a, b ..]`.
-pub fn from(alloc: Global, dots: Dots, mark: Item, right: Item) -> Result<Part<Exp>, Stop>
-    ensures { IfOk result (λ made. made ≡ from_of dots mark right) }
-{
+pub fn from(alloc: Global, dots: Dots, mark: Item, right: Item) -> Result<Part<Exp>, Stop> {
     match dots {
         Dots::One(left, first) => {
             let Part { tree, height } = first;
@@ -108,9 +90,7 @@ pub fn from_to(
     mark: Item,
     last: Part<Exp>,
     right: Item,
-) -> Result<Part<Exp>, Stop>
-    ensures { IfOk result (λ made. made ≡ from_to_of dots mark last right) }
-{
+) -> Result<Part<Exp>, Stop> {
     let Part { tree: last, height } = last;
     match dots {
         Dots::One(left, first) => {
@@ -128,9 +108,7 @@ pub fn from_to(
     }
 }
 
-pub fn apply(alloc: Global, atoms: Many<Exp>) -> Result<Part<Exp>, Stop>
-    ensures { IfOk result (λ made. made ≡ record { tree = Exp.Apply atoms.list; height = atoms.height + 1 }) }
-{
+pub fn apply(alloc: Global, atoms: Many<Exp>) -> Result<Part<Exp>, Stop> {
     let Many { list, height } = atoms;
     node(alloc, Exp::Apply(list), height)
 }
@@ -140,9 +118,7 @@ pub fn annotated(
     part: Part<Exp>,
     colons: Item,
     ty: Measured<Ty>,
-) -> Result<Part<Exp>, Stop>
-    ensures { IfOk result (λ made. made ≡ record { tree = Exp.Annotated part.tree colons ty.tree; height = max ty.height part.height + 1 }) }
-{
+) -> Result<Part<Exp>, Stop> {
     let Part { tree, height } = part;
     let levels = ty.height.max(height);
     let Measured { tree: ty, .. } = ty;
@@ -155,9 +131,7 @@ pub fn sequence(
     operands: Operands<Exp>,
     minus: Option<Item>,
     last: Part<Exp>,
-) -> Result<Part<Exp>, Stop>
-    ensures { IfOk result (λ made. made ≡ sequence_of operands minus last) }
-{
+) -> Result<Part<Exp>, Stop> {
     if operands.is_empty() && minus.is_none() {
         return Ok(last);
     }
@@ -167,9 +141,7 @@ pub fn sequence(
     node(alloc, Exp::Infix(list), height)
 }
 
-pub fn comprehension(alloc: Global, begun: Comprehension, right: Item) -> Result<Part<Exp>, Stop>
-    ensures { IfOk result (λ made. made ≡ record { tree = Exp.Comprehension begun.left begun.first.tree begun.bar begun.qualifiers.list right; height = max begun.qualifiers.height begun.first.height + 1 }) }
-{
+pub fn comprehension(alloc: Global, begun: Comprehension, right: Item) -> Result<Part<Exp>, Stop> {
     let Comprehension {
         left,
         first,
@@ -196,9 +168,7 @@ pub fn lambda(
     patterns: Many<Pat>,
     arrow: Item,
     body: Read,
-) -> Result<Read, Stop>
-    ensures { IfOk result (λ made. made ≡ lambda_of mark patterns arrow body) }
-{
+) -> Result<Read, Stop> {
     let Many { list, height } = patterns;
     let Read {
         tree,
@@ -215,9 +185,7 @@ pub fn lambda(
     Ok(open(exp, Tail { ending, operator }))
 }
 
-pub fn local(alloc: Global, local: LetBody, body: Read) -> Result<Read, Stop>
-    ensures { IfOk result (λ made. made ≡ let_of local body) }
-{
+pub fn local(alloc: Global, local: LetBody, body: Read) -> Result<Read, Stop> {
     let LetBody {
         word,
         block,
@@ -250,9 +218,7 @@ pub fn condition(
     first: Part<Exp>,
     else_word: Item,
     second: Read,
-) -> Result<Read, Stop>
-    ensures { IfOk result (λ made. made ≡ condition_of condition first else_word second) }
-{
+) -> Result<Read, Stop> {
     let Condition {
         word,
         test,
@@ -281,9 +247,7 @@ pub fn case(
     part: Part<Exp>,
     of_word: Item,
     block: Blocked<Alt>,
-) -> Result<Part<Exp>, Stop>
-    ensures { IfOk result (λ made. made ≡ record { tree = Exp.Case word part.tree of_word (block_of block); height = max part.height block.height + 1 }) }
-{
+) -> Result<Part<Exp>, Stop> {
     let Part { tree, height } = part;
     let Blocked {
         layout,

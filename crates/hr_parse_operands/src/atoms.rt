@@ -1,6 +1,4 @@
 //! Atoms: the Haskell 98 Report, section 3.2.
-ghost use Rattle.std.specs.Prelude.{IfOk};
-ghost use Rattle.hr_parse_parts.specs.Steps.{Steps, Wanted};
 
 use hr_layout::Cursor;
 use hr_parse_brackets::{constructor, parenthesized, squared, used, variable, whole};
@@ -20,9 +18,7 @@ pub fn atom(
     notes: &mut Notes,
     depth: u32,
     may_bind: bool,
-) -> Result<Step, Stop>
-    ensures { IfOk result (λ step. Steps Wanted.Atom step cursor.old cursor.new) }
-{
+) -> Result<Step, Stop> {
     let kind = kind_ahead(cursor);
     if may_bind && begins_pattern_alone(kind) {
         let part = atomic(alloc, cursor, notes, depth)?;
@@ -46,9 +42,7 @@ fn number(
     cursor: &mut Cursor,
     notes: &mut Notes,
     may_bind: bool,
-) -> Result<Step, Stop>
-    ensures { IfOk result (λ step. Steps Wanted.Atom step cursor.old cursor.new) }
-{
+) -> Result<Step, Stop> {
     let number = expect_sort(cursor, Sort::Integer)?;
     let twin = number_twin(&number, may_bind)?;
     let exp = node(alloc, Exp::Literal(number), 0)?;
@@ -60,9 +54,7 @@ fn literal(
     cursor: &mut Cursor,
     notes: &mut Notes,
     may_bind: bool,
-) -> Result<Step, Stop>
-    ensures { IfOk result (λ step. Steps Wanted.Atom step cursor.old cursor.new) }
-{
+) -> Result<Step, Stop> {
     let literal = expect_sort(cursor, Sort::Literal)?;
     let twin = literal_twin(alloc, &literal, may_bind)?;
     let exp = node(alloc, Exp::Literal(literal), 0)?;
@@ -76,9 +68,7 @@ fn named(
     notes: &mut Notes,
     depth: u32,
     may_bind: bool,
-) -> Result<Step, Stop>
-    ensures { IfOk result (λ step. Steps Wanted.Atom step cursor.old cursor.new) }
-{
+) -> Result<Step, Stop> {
     match kind_ahead(cursor) {
         Kind::Variable => {
             let name = expect_sort(cursor, Sort::Variable)?;

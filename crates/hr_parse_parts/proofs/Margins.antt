@@ -19,7 +19,7 @@ use Rattle.hr_grammar.specs.Words.{IsLeftBrace, IsRightBrace, IsSemicolon}
 use Rattle.hr_parse_lexeme.specs.Reads.{IsAhead, Takes}
 use Rattle.hr_parse_parts.specs.declared.pieces.Bounds.{Bounds}
 use Rattle.hr_parse_parts.specs.declared.pieces.Start.{Start}
-use Rattle.hr_parse_parts.specs.Blocks.{Begins, IsEmpty, OpensBraces, OpensMargin, StartsPart}
+use Rattle.hr_parse_parts.specs.Openings.{Begins, IsEmpty, OpensBraces, OpensMargin, StartsPart}
 use Rattle.hr_parse_parts.specs.Finds.{EndsBraces, EndsMargin, IsNext, MayTakeSemicolon, TakesSemicolon}
 
 -- how a block opens

@@ -31,8 +31,7 @@ use Rattle.hr_parse_pattern.proofs.Lists.{left_of_max, right_of_max, none_before
 use Rattle.hr_parse_pattern.proofs.Patterns.{applied_read, as_operand, as_whole, closed_read, infix_read, literal_read, made, negative_read, square_read, variable_read}
 use Rattle.hr_parse_parts.specs.declared.twins.Applied.{Applied}
 use Rattle.hr_parse_parts.specs.declared.twins.Twin.{Twin}
-use Rattle.hr_parse_parts.specs.Lists.{AsMany, MayApplied, MayOperands, MayParts, ReadsApplied}
-use Rattle.hr_parse_parts.specs.Parts.{MayTwin, ReadsTwin}
+use Rattle.hr_parse_parts.specs.Twins.{AsMany, MayApplied, MayOperands, MayParts, MayTwin, ReadsApplied, ReadsTwin}
 
 -- a pattern by its outermost node, at any place
 node : {h : ℕ} {a b : Standing} (place : PatPlace) (layer : Pat-F Pat) (pat : Pat) → out-Pat pat ≡ layer → Consumes h (λ below n. pat_reading below n place layer) a b

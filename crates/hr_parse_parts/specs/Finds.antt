@@ -14,7 +14,7 @@ use Rattle.hr_grammar_cases.specs.Readings.{one}
 use Rattle.hr_parse_lexeme.specs.Reads.{Takes}
 use Rattle.hr_parse_parts.specs.declared.pieces.Ahead.{Ahead}
 use Rattle.hr_parse_parts.specs.declared.pieces.Bounds.{Bounds}
-use Rattle.hr_parse_parts.specs.Blocks.{StartsPart}
+use Rattle.hr_parse_parts.specs.Openings.{StartsPart}
 
 pub record EndsMargin (kind : BlockKind) (col : ℕ) (ending : Ending) (outer : List OpenBlock) (laid : Layout) (before after : Standing) : Type 0 where
   pub layout : laid ≡ Layout.Implicit col

@@ -1,9 +1,6 @@
-pub mod Places
-pub mod Words
-pub mod Parts
-pub mod Lists
-pub mod Blocks
 pub mod Finds
 pub mod Mixed
-pub mod Waits
-pub mod Steps
+pub mod Openings
+pub mod Places
+pub mod Twins
+pub mod Words

@@ -1,5 +1,4 @@
 //! Blocks, and right sides, of which a part is read.
-ghost use Rattle.hr_parse_lexeme.specs.declared.mark.Mark.{Mark};
 
 use crate::pieces::{Bounds, Pieces};
 use hr_base::{Ending, Item};

@@ -8,7 +8,7 @@ ghost use Rattle.hr_grammar.specs.Offside.{column_of};
 ghost use Rattle.hr_grammar.specs.Words.{IsRightBrace, IsSemicolon};
 ghost use Rattle.hr_parse_lexeme.specs.Reads.{IsAhead};
 ghost use Rattle.hr_tree.specs.declared.lists.Piece.{Piece};
-ghost use Rattle.hr_parse_parts.specs.Blocks.{Begins, bounds_behind};
+ghost use Rattle.hr_parse_parts.specs.Openings.{Begins, bounds_behind};
 ghost use Rattle.hr_parse_parts.specs.Finds.{IsNext, Finds, FindsBraces, FindsMargin, MayTakeSemicolon, block_by};
 
 use crate::starts::begins_declaration;

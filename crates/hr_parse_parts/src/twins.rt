@@ -10,8 +10,7 @@ ghost use Rattle.hr_grammar.specs.Spelled.{IsConstructor, IsConstructorOperator,
 ghost use Rattle.hr_grammar.specs.Nodes.{PatPlace};
 ghost use Rattle.hr_parse_lexeme.specs.Reads.{Accepts, Spells, Takes};
 ghost use Rattle.hr_parse_pattern.specs.Patterns.{ReadsPat};
-ghost use Rattle.hr_parse_parts.specs.Lists.{AsMany, MayApplied, MayOperands, MayParts};
-ghost use Rattle.hr_parse_parts.specs.Parts.{MayTwin, ReadsTwin};
+ghost use Rattle.hr_parse_parts.specs.Twins.{AsMany, MayApplied, MayOperands, MayParts, MayTwin, ReadsTwin};
 
 use hr_base::Item;
 use hr_parse_lexeme::{Held, Stop, nest};

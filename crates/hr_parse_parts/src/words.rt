@@ -12,9 +12,8 @@ use hr_parse_pattern::past;
 
 /// Takes the word before a block of declarations.
 pub fn before_block(cursor: &mut Cursor, mark: Mark) -> Result<Item, Stop>
-    requires { OpensDeclarations mark }
     ensures taken { IfOk result (λ word. Takes (IsMark mark) word cursor.old cursor.new) }
-    ensures opens { IfOk result (λ word. cursor.new.behind_of ≡ false) }
+    ensures opens { OpensDeclarations mark → IfOk result (λ word. cursor.new.behind_of ≡ false) }
 {
     if !is_next(cursor, mark) {
         return Err(Stop::Syntax);
@@ -24,9 +23,8 @@ pub fn before_block(cursor: &mut Cursor, mark: Mark) -> Result<Item, Stop>
 
 /// Takes the word before a block of declarations, if it is there.
 pub fn accept_before_block(cursor: &mut Cursor, mark: Mark) -> Option<Item>
-    requires { OpensDeclarations mark }
     ensures taken { Accepts (IsMark mark) result cursor.old cursor.new }
-    ensures opens { MayOpen result cursor.new }
+    ensures opens { OpensDeclarations mark → MayOpen result cursor.new }
 {
     if is_next(cursor, mark) {
         cursor.take()

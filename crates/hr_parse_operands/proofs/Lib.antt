@@ -1,3 +1,0 @@
-pub mod Infixes
-pub mod Applied
-pub mod Formed
