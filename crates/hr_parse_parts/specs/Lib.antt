@@ -1,6 +1,4 @@
-pub mod Finds
+pub mod Blocks
+pub mod Bounds
 pub mod Mixed
-pub mod Openings
 pub mod Places
-pub mod Twins
-pub mod Words

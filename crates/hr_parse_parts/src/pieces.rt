@@ -1,15 +1,9 @@
 //! What stands in a block, how a block opens, and how it goes on: the Haskell 98 Report, sections 2.7 and 9.3. A block
 //! ends where the cursor closes it, a `;` stands for itself, and a part starts where the cursor says.
-ghost use Rattle.std.specs.Prelude.{IfOk, List, OnOk, [], max, true, ◌++◌, ◌+◌, ◌∷◌, ◌≡◌};
-ghost use Rattle.hr_rules.specs.declared.block.BlockKind.{BlockKind};
-ghost use Rattle.hr_rules.specs.declared.block.OpenBlock.{OpenBlock};
-ghost use Rattle.hr_layout.specs.Standing.{Standing, opened_as, opening};
+ghost use Rattle.std.specs.Prelude.{IfOk, OnOk, [], max, ◌++◌, ◌+◌, ◌∷◌, ◌≡◌};
 ghost use Rattle.hr_grammar.specs.Offside.{column_of};
-ghost use Rattle.hr_grammar.specs.Words.{IsRightBrace, IsSemicolon};
-ghost use Rattle.hr_parse_lexeme.specs.Reads.{IsAhead};
 ghost use Rattle.hr_tree.specs.declared.lists.Piece.{Piece};
-ghost use Rattle.hr_parse_parts.specs.Openings.{Begins, bounds_behind};
-ghost use Rattle.hr_parse_parts.specs.Finds.{IsNext, Finds, FindsBraces, FindsMargin, MayTakeSemicolon, block_by};
+ghost use Rattle.hr_parse_parts.specs.Bounds.{bounds_behind};
 
 use crate::starts::begins_declaration;
 use hr_base::{Class, Ending, Item};
@@ -103,9 +97,7 @@ pub enum Start {
 }
 
 /// Takes the brace of a block that opened so.
-pub fn opened_by(cursor: &mut Cursor, opened: Opened) -> Result<Start, Stop>
-    ensures { IfOk result (λ start. (kind : BlockKind) (before : Standing) → opened ≡ opening before → cursor.old ≡ opened_as kind before → Begins kind start before cursor.new) }
-{
+pub fn opened_by(cursor: &mut Cursor, opened: Opened) -> Result<Start, Stop> {
     match opened {
         Opened::Empty => Ok(Start::Empty(column(cursor))),
         Opened::Implicit { col } => Ok(Start::Open(Bounds::Margin(col, Ending::Nothing))),
@@ -125,18 +117,14 @@ pub enum Ahead {
 }
 
 /// The next piece of a block, or its end.
-pub fn piece_ahead(cursor: &mut Cursor, bounds: Bounds) -> Result<Ahead, Stop>
-    ensures { IfOk result (λ ahead. (kind : BlockKind) (outer : List OpenBlock) → cursor.old.blocks ≡ block_by kind bounds ∷ outer → Finds kind bounds outer ahead cursor.old cursor.new) }
-{
+pub fn piece_ahead(cursor: &mut Cursor, bounds: Bounds) -> Result<Ahead, Stop> {
     match bounds {
         Bounds::Margin(col, ending) => margin_ahead(cursor, col, ending),
         Bounds::Braces(left, begins) => braces_ahead(cursor, left, begins),
     }
 }
 
-fn margin_ahead(cursor: &mut Cursor, col: u32, ending: Ending) -> Result<Ahead, Stop>
-    ensures { IfOk result (λ ahead. (kind : BlockKind) (outer : List OpenBlock) → cursor.old.blocks ≡ OpenBlock.Implicit col kind ∷ outer → FindsMargin kind col ending outer ahead cursor.old cursor.new) }
-{
+fn margin_ahead(cursor: &mut Cursor, col: u32, ending: Ending) -> Result<Ahead, Stop> {
     if cursor.close(ending) {
         return Ok(Ahead::End(Layout::Implicit { col }));
     }
@@ -150,9 +138,7 @@ fn margin_ahead(cursor: &mut Cursor, col: u32, ending: Ending) -> Result<Ahead, 
     Err(Stop::Syntax)
 }
 
-fn braces_ahead(cursor: &mut Cursor, left: Item, begins: bool) -> Result<Ahead, Stop>
-    ensures { IfOk result (λ ahead. (outer : List OpenBlock) → cursor.old.blocks ≡ OpenBlock.Explicit ∷ outer → FindsBraces left begins outer ahead cursor.old cursor.new) }
-{
+fn braces_ahead(cursor: &mut Cursor, left: Item, begins: bool) -> Result<Ahead, Stop> {
     if is_right_brace(cursor) {
         let right = past(cursor)?;
         return Ok(Ahead::End(Layout::Explicit(left, right)));
@@ -178,9 +164,7 @@ fn column(cursor: &Cursor) -> u32
 }
 
 /// Takes a `;`, wherever it stands: in a block without braces it begins a piece where the block doesn't end.
-fn semicolon(cursor: &mut Cursor) -> Option<Item>
-    ensures { MayTakeSemicolon result cursor.old cursor.new }
-{
+fn semicolon(cursor: &mut Cursor) -> Option<Item> {
     if is_semicolon(cursor) {
         cursor.take()
     } else {
@@ -188,18 +172,14 @@ fn semicolon(cursor: &mut Cursor) -> Option<Item>
     }
 }
 
-fn is_semicolon(cursor: &Cursor) -> bool
-    ensures { result ≡ true → IsNext IsSemicolon cursor.now.rest }
-{
+fn is_semicolon(cursor: &Cursor) -> bool {
     match cursor.peek() {
         None => false,
         Some(lexeme) => Mark::Semicolon.is(lexeme),
     }
 }
 
-fn is_right_brace(cursor: &Cursor) -> bool
-    ensures { result ≡ true → IsAhead IsRightBrace cursor.now.blocks cursor.now.rest }
-{
+fn is_right_brace(cursor: &Cursor) -> bool {
     match cursor.ahead() {
         Some(lexeme) => lexeme.class == Class::Special && lexeme.text.is(b"}"),
         None => false,

@@ -1,9 +1,4 @@
 //! Words before a block: the block behind an `of` has alternatives, and that behind any other word declarations.
-ghost use Rattle.std.specs.Prelude.{IfOk, false, true, ◌≡◌};
-ghost use Rattle.hr_parse_lexeme.specs.Marks.{IsMark};
-ghost use Rattle.hr_parse_lexeme.specs.Reads.{Accepts, Takes};
-ghost use Rattle.hr_parse_lexeme.specs.declared.mark.Mark.{Mark};
-ghost use Rattle.hr_parse_parts.specs.Words.{MayOpen, OpensDeclarations};
 
 use hr_base::Item;
 use hr_layout::Cursor;
@@ -11,10 +6,7 @@ use hr_parse_lexeme::{Mark, Stop, is_next};
 use hr_parse_pattern::past;
 
 /// Takes the word before a block of declarations.
-pub fn before_block(cursor: &mut Cursor, mark: Mark) -> Result<Item, Stop>
-    ensures taken { IfOk result (λ word. Takes (IsMark mark) word cursor.old cursor.new) }
-    ensures opens { OpensDeclarations mark → IfOk result (λ word. cursor.new.behind_of ≡ false) }
-{
+pub fn before_block(cursor: &mut Cursor, mark: Mark) -> Result<Item, Stop> {
     if !is_next(cursor, mark) {
         return Err(Stop::Syntax);
     }
@@ -22,10 +14,7 @@ pub fn before_block(cursor: &mut Cursor, mark: Mark) -> Result<Item, Stop>
 }
 
 /// Takes the word before a block of declarations, if it is there.
-pub fn accept_before_block(cursor: &mut Cursor, mark: Mark) -> Option<Item>
-    ensures taken { Accepts (IsMark mark) result cursor.old cursor.new }
-    ensures opens { OpensDeclarations mark → MayOpen result cursor.new }
-{
+pub fn accept_before_block(cursor: &mut Cursor, mark: Mark) -> Option<Item> {
     if is_next(cursor, mark) {
         cursor.take()
     } else {
@@ -34,10 +23,7 @@ pub fn accept_before_block(cursor: &mut Cursor, mark: Mark) -> Option<Item>
 }
 
 /// Takes the `of` before a block of alternatives.
-pub fn before_alternatives(cursor: &mut Cursor) -> Result<Item, Stop>
-    ensures taken { IfOk result (λ word. Takes (IsMark Mark.Of) word cursor.old cursor.new) }
-    ensures opens { IfOk result (λ word. cursor.new.behind_of ≡ true) }
-{
+pub fn before_alternatives(cursor: &mut Cursor) -> Result<Item, Stop> {
     if !is_next(cursor, Mark::Of) {
         return Err(Stop::Syntax);
     }

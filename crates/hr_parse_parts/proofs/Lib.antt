@@ -1,3 +1,0 @@
-pub mod Margins
-pub mod Patterns
-pub mod Words
