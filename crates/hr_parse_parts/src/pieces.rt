@@ -1,9 +1,16 @@
 //! What stands in a block, how a block opens, and how it goes on: the Haskell 98 Report, sections 2.7 and 9.3. A block
 //! ends where the cursor closes it, a `;` stands for itself, and a part starts where the cursor says.
-ghost use Rattle.std.specs.Prelude.{IfOk, OnOk, [], max, ◌++◌, ◌+◌, ◌∷◌, ◌≡◌};
+ghost use Rattle.std.specs.Prelude.{IfOk, List, OnOk, [], max, true, ◌++◌, ◌+◌, ◌∷◌, ◌≡◌};
+ghost use Rattle.hr_rules.specs.declared.block.BlockKind.{BlockKind};
+ghost use Rattle.hr_rules.specs.declared.block.OpenBlock.{OpenBlock};
+ghost use Rattle.hr_layout.specs.Standing.{Standing, opened_as, opening};
 ghost use Rattle.hr_grammar.specs.Offside.{column_of};
+ghost use Rattle.hr_grammar.specs.Words.{IsRightBrace, IsSemicolon};
+ghost use Rattle.hr_parse_lexeme.specs.Reads.{IsAhead};
 ghost use Rattle.hr_tree.specs.declared.lists.Piece.{Piece};
 ghost use Rattle.hr_parse_parts.specs.Bounds.{bounds_behind};
+ghost use Rattle.hr_parse_parts.specs.Openings.{Begins};
+ghost use Rattle.hr_parse_parts.specs.Finds.{IsNext, Finds, FindsBraces, FindsMargin, MayTakeSemicolon, block_by};
 
 use crate::starts::begins_declaration;
 use hr_base::{Class, Ending, Item};
@@ -97,7 +104,9 @@ pub enum Start {
 }
 
 /// Takes the brace of a block that opened so.
-pub fn opened_by(cursor: &mut Cursor, opened: Opened) -> Result<Start, Stop> {
+pub fn opened_by(cursor: &mut Cursor, opened: Opened) -> Result<Start, Stop>
+    ensures { IfOk result (λ start. (kind : BlockKind) (before : Standing) → opened ≡ opening before → cursor.old ≡ opened_as kind before → Begins kind start before cursor.new) }
+{
     match opened {
         Opened::Empty => Ok(Start::Empty(column(cursor))),
         Opened::Implicit { col } => Ok(Start::Open(Bounds::Margin(col, Ending::Nothing))),
@@ -117,14 +126,18 @@ pub enum Ahead {
 }
 
 /// The next piece of a block, or its end.
-pub fn piece_ahead(cursor: &mut Cursor, bounds: Bounds) -> Result<Ahead, Stop> {
+pub fn piece_ahead(cursor: &mut Cursor, bounds: Bounds) -> Result<Ahead, Stop>
+    ensures { IfOk result (λ ahead. (kind : BlockKind) (outer : List OpenBlock) → cursor.old.blocks ≡ block_by kind bounds ∷ outer → Finds kind bounds outer ahead cursor.old cursor.new) }
+{
     match bounds {
         Bounds::Margin(col, ending) => margin_ahead(cursor, col, ending),
         Bounds::Braces(left, begins) => braces_ahead(cursor, left, begins),
     }
 }
 
-fn margin_ahead(cursor: &mut Cursor, col: u32, ending: Ending) -> Result<Ahead, Stop> {
+fn margin_ahead(cursor: &mut Cursor, col: u32, ending: Ending) -> Result<Ahead, Stop>
+    ensures { IfOk result (λ ahead. (kind : BlockKind) (outer : List OpenBlock) → cursor.old.blocks ≡ OpenBlock.Implicit col kind ∷ outer → FindsMargin kind col ending outer ahead cursor.old cursor.new) }
+{
     if cursor.close(ending) {
         return Ok(Ahead::End(Layout::Implicit { col }));
     }
@@ -138,7 +151,9 @@ fn margin_ahead(cursor: &mut Cursor, col: u32, ending: Ending) -> Result<Ahead, 
     Err(Stop::Syntax)
 }
 
-fn braces_ahead(cursor: &mut Cursor, left: Item, begins: bool) -> Result<Ahead, Stop> {
+fn braces_ahead(cursor: &mut Cursor, left: Item, begins: bool) -> Result<Ahead, Stop>
+    ensures { IfOk result (λ ahead. (outer : List OpenBlock) → cursor.old.blocks ≡ OpenBlock.Explicit ∷ outer → FindsBraces left begins outer ahead cursor.old cursor.new) }
+{
     if is_right_brace(cursor) {
         let right = past(cursor)?;
         return Ok(Ahead::End(Layout::Explicit(left, right)));
@@ -164,7 +179,9 @@ fn column(cursor: &Cursor) -> u32
 }
 
 /// Takes a `;`, wherever it stands: in a block without braces it begins a piece where the block doesn't end.
-fn semicolon(cursor: &mut Cursor) -> Option<Item> {
+fn semicolon(cursor: &mut Cursor) -> Option<Item>
+    ensures { MayTakeSemicolon result cursor.old cursor.new }
+{
     if is_semicolon(cursor) {
         cursor.take()
     } else {
@@ -172,14 +189,18 @@ fn semicolon(cursor: &mut Cursor) -> Option<Item> {
     }
 }
 
-fn is_semicolon(cursor: &Cursor) -> bool {
+fn is_semicolon(cursor: &Cursor) -> bool
+    ensures { result ≡ true → IsNext IsSemicolon cursor.now.rest }
+{
     match cursor.peek() {
         None => false,
         Some(lexeme) => Mark::Semicolon.is(lexeme),
     }
 }
 
-fn is_right_brace(cursor: &Cursor) -> bool {
+fn is_right_brace(cursor: &Cursor) -> bool
+    ensures { result ≡ true → IsAhead IsRightBrace cursor.now.blocks cursor.now.rest }
+{
     match cursor.ahead() {
         Some(lexeme) => lexeme.class == Class::Special && lexeme.text.is(b"}"),
         None => false,
