@@ -3,10 +3,11 @@ ghost use Rattle.std.specs.Prelude.{◌≤◌};
 
 use hr_layout::Cursor;
 use hr_parse_declaration::{Stated, fixity, import, signature, type_declaration};
+use hr_parse_left::{Front, beginning};
 use hr_parse_lexeme::{Held, Kind, Notes, Stop, kind_ahead, nest};
 use hr_parse_nodes::bodies;
 use hr_parse_parts::{Left, Position, Side, begins_declaration};
-use hr_parse_pattern::{Front, beginning, below, variable_pattern};
+use hr_parse_pattern::{below, variable_pattern};
 use hr_tree::{Decl, Variable};
 use std::alloc::Global;
 

@@ -1,5 +1,4 @@
 pub mod Behind
-pub mod Fronts
 pub mod Lists
 pub mod Names
 pub mod Openings

@@ -1,4 +1,3 @@
-pub mod Fronts
 pub mod Kinds
 pub mod Lists
 pub mod Nodes

@@ -21,7 +21,7 @@ use std::alloc::Global;
 
 /// What a minus in parentheses begins: a variable, or a negative integer behind the parenthesis.
 #[derive(Drop)]
-pub(crate) enum Signed {
+pub enum Signed {
     Variable(Held<Variable>),
     Number(Item, Item),
 }
@@ -47,7 +47,7 @@ pub fn bound_at(
     }
 }
 
-pub(crate) fn variable_name(cursor: &mut Cursor) -> Result<Held<Variable>, Stop>
+pub fn variable_name(cursor: &mut Cursor) -> Result<Held<Variable>, Stop>
     ensures { IfOk result (λ bound. Spells IsVariable variable_items bound cursor.old cursor.new) }
 {
     let name = expect_sort(cursor, Sort::Variable)?;
@@ -55,7 +55,7 @@ pub(crate) fn variable_name(cursor: &mut Cursor) -> Result<Held<Variable>, Stop>
 }
 
 /// A variable's operator behind a parenthesis, and the closing one.
-pub(crate) fn variable_symbol(cursor: &mut Cursor, left: Item) -> Result<Held<Variable>, Stop>
+pub fn variable_symbol(cursor: &mut Cursor, left: Item) -> Result<Held<Variable>, Stop>
     ensures { IfOk result (λ bound. (before : Standing) → Takes IsLeftParen left before cursor.old → Spells IsVariable variable_items bound before cursor.new) }
 {
     let symbol = expect_sort(cursor, Sort::VariableSymbol)?;
@@ -64,7 +64,7 @@ pub(crate) fn variable_symbol(cursor: &mut Cursor, left: Item) -> Result<Held<Va
 }
 
 /// A constructor's operator behind a parenthesis, and the closing one.
-pub(crate) fn symbol_constructor(
+pub fn symbol_constructor(
     cursor: &mut Cursor,
     left: Item,
     kind: Kind,
@@ -77,7 +77,7 @@ pub(crate) fn symbol_constructor(
 }
 
 /// The minus in parentheses is a variable; else an integer has to stand behind it.
-pub(crate) fn minus_in_parenthesis(cursor: &mut Cursor, left: Item) -> Result<Signed, Stop>
+pub fn minus_in_parenthesis(cursor: &mut Cursor, left: Item) -> Result<Signed, Stop>
     ensures { IfOk result (λ signed. (before : Standing) → Takes IsLeftParen left before cursor.old → ReadsSigned signed before cursor.new) }
 {
     let minus = expect(cursor, Mark::Minus)?;

@@ -65,7 +65,7 @@ fn symbol(cursor: &mut Cursor, kind: Kind) -> Result<Operator, Stop>
 }
 
 /// A symbol of a constructor's operator, whose kind is ahead.
-pub(crate) fn expect_constructor(cursor: &mut Cursor, kind: Kind) -> Result<Item, Stop>
+pub fn expect_constructor(cursor: &mut Cursor, kind: Kind) -> Result<Item, Stop>
     ensures { IfOk result (λ item. Takes IsConstructorSymbol item cursor.old cursor.new) }
 {
     match kind {
@@ -113,7 +113,7 @@ fn quoted(cursor: &mut Cursor, left: Item) -> Result<Operator, Stop>
 }
 
 /// A constructor behind a backquote, and the closing one.
-pub(crate) fn quoted_constructor(cursor: &mut Cursor, left: Item) -> Result<Operator, Stop>
+pub fn quoted_constructor(cursor: &mut Cursor, left: Item) -> Result<Operator, Stop>
     ensures { IfOk result (λ operator. (before : Standing) → Takes IsBackquote left before cursor.old → Spells IsConstructorOperator operator_items operator before cursor.new) }
 {
     let name = expect_sort(cursor, Sort::NamedConstructor)?;

@@ -317,7 +317,7 @@ fn signed(alloc: Global, cursor: &mut Cursor, notes: &mut Notes) -> Result<Part<
 }
 
 /// The constructor, with all arguments that follow.
-pub(crate) fn constructor_with(
+pub fn constructor_with(
     alloc: Global,
     cursor: &mut Cursor,
     notes: &mut Notes,
