@@ -1,5 +1,11 @@
 //! The parts that hold expressions: qualifiers, right sides, declarations and alternatives, with their heights.
-ghost use Rattle.std.specs.Prelude.{◌≡◌, None};
+ghost use Rattle.std.specs.Prelude.{IfOk, None, Some, [], max, ◌++◌, ◌+◌, ◌∷◌, ◌≡◌};
+ghost use Rattle.hr_base.specs.declared.lexeme.Ending.{Ending};
+ghost use Rattle.hr_tree.specs.declared.declarations.Body.{Body};
+ghost use Rattle.hr_tree.specs.declared.expressions.Decl.{Decl};
+ghost use Rattle.hr_tree.specs.declared.expressions.Decl.TheViews.{roll-Alt};
+ghost use Rattle.hr_tree.specs.declared.expressions.Qualifier.{Qualifier};
+ghost use Rattle.hr_parse_parts.specs.Parts.{block_of};
 
 use hr_base::{Ending, Item};
 use hr_parse_declaration::{Stated, state};
@@ -10,7 +16,9 @@ use hr_tree::{Alt, Block, Body, Decl, Exp, Guarded, LeftSide, Pat, Qualifier, Wh
 use sqlite_items::Boxed;
 use std::alloc::{AllocError, Global};
 
-pub fn test(alloc: Global, exp: Part<Exp>) -> Result<Part<Qualifier>, AllocError> {
+pub fn test(alloc: Global, exp: Part<Exp>) -> Result<Part<Qualifier>, AllocError>
+    ensures { IfOk result (λ made. made ≡ record { tree = Qualifier.Test exp.tree; height = exp.height }) }
+{
     let Part { tree, height } = exp;
     Ok(Part {
         tree: Boxed::new(alloc, Qualifier::Test(tree))?,
@@ -23,7 +31,9 @@ pub fn generator(
     pattern: Part<Pat>,
     arrow: Item,
     exp: Part<Exp>,
-) -> Result<Part<Qualifier>, AllocError> {
+) -> Result<Part<Qualifier>, AllocError>
+    ensures { IfOk result (λ made. made ≡ record { tree = Qualifier.Generator pattern.tree arrow exp.tree; height = max pattern.height exp.height }) }
+{
     let Part { tree, height } = pattern;
     let Part {
         tree: exp,
@@ -40,7 +50,9 @@ pub fn locals(
     alloc: Global,
     word: Item,
     block: Blocked<Decl>,
-) -> Result<Part<Qualifier>, AllocError> {
+) -> Result<Part<Qualifier>, AllocError>
+    ensures { IfOk result (λ made. made ≡ record { tree = Qualifier.Locals word (block_of block); height = block.height }) }
+{
     let Blocked {
         layout,
         pieces,
@@ -53,7 +65,9 @@ pub fn locals(
     })
 }
 
-pub fn plain(mark: Item, exp: Part<Exp>) -> Whole {
+pub fn plain(mark: Item, exp: Part<Exp>) -> Whole
+    ensures { result ≡ record { body = Body.Plain mark exp.tree; height = exp.height } }
+{
     let Part { tree, height } = exp;
     Whole {
         body: Held::new(Body::Plain(mark, tree.into_inner())),
@@ -65,7 +79,9 @@ pub fn one_guard_more(
     guards: Guards,
     guarded: GuardedBy,
     body: Part<Exp>,
-) -> Result<Guards, AllocError> {
+) -> Result<Guards, AllocError>
+    ensures { IfOk result (λ made. made ≡ record { depth = guards.depth; mark = guards.mark; list = guards.list ++ record { bar = guarded.bar; guard = guarded.guard.tree; mark = guarded.mark; body = body.tree } ∷ []; height = max (max guarded.guard.height body.height) guards.height }) }
+{
     let mut guards = guards;
     let GuardedBy { bar, guard, mark } = guarded;
     let Part {
@@ -86,7 +102,9 @@ pub fn one_guard_more(
     Ok(guards)
 }
 
-pub fn guarded(guards: Guards) -> Whole {
+pub fn guarded(guards: Guards) -> Whole
+    ensures { result ≡ record { body = Body.Guarded guards.list; height = guards.height } }
+{
     let Guards { list, height, .. } = guards;
     Whole {
         body: Held::new(Body::Guarded(list)),
@@ -107,7 +125,9 @@ pub fn side(whole: Whole, ending: Ending) -> Side
     }
 }
 
-pub fn side_where(whole: Whole, word: Item, block: Blocked<Decl>) -> Side {
+pub fn side_where(whole: Whole, word: Item, block: Blocked<Decl>) -> Side
+    ensures { result ≡ record { body = whole.body; locals = Some (record { word = word; block = block_of block }); height = max whole.height block.height; ending = Ending.WhereBlock } }
+{
     let Whole { body, height } = whole;
     let Blocked {
         layout,
@@ -123,7 +143,9 @@ pub fn side_where(whole: Whole, word: Item, block: Blocked<Decl>) -> Side {
     }
 }
 
-pub fn binding(alloc: Global, pattern: Part<Pat>, side: Side) -> Result<Stated<Decl>, Stop> {
+pub fn binding(alloc: Global, pattern: Part<Pat>, side: Side) -> Result<Stated<Decl>, Stop>
+    ensures { IfOk result (λ made. made ≡ record { tree = Decl.Binding pattern.tree side.body side.locals; height = max side.height pattern.height + 1; ending = side.ending }) }
+{
     let Part { tree, height } = pattern;
     let Side {
         body,
@@ -143,7 +165,9 @@ pub fn equation(
     left: LeftSide,
     height: u32,
     side: Side,
-) -> Result<Stated<Decl>, Stop> {
+) -> Result<Stated<Decl>, Stop>
+    ensures { IfOk result (λ made. made ≡ record { tree = Decl.Equation left side.body side.locals; height = max side.height height + 1; ending = side.ending }) }
+{
     let Side {
         body,
         locals,
@@ -157,7 +181,9 @@ pub fn equation(
     Ok(stated)
 }
 
-pub fn alternative(alloc: Global, pattern: Part<Pat>, side: Side) -> Result<Stated<Alt>, Stop> {
+pub fn alternative(alloc: Global, pattern: Part<Pat>, side: Side) -> Result<Stated<Alt>, Stop>
+    ensures { IfOk result (λ made. made ≡ record { tree = roll-Alt (record { pattern = pattern.tree; body = side.body; locals = side.locals }); height = max side.height pattern.height + 1; ending = side.ending }) }
+{
     let Part { tree, height } = pattern;
     let Side {
         body,

@@ -1,4 +1,8 @@
 //! The nodes of expressions, with their heights. Each is made and boxed in one step.
+ghost use Rattle.std.specs.Prelude.{IfOk, max, ◌+◌, ◌≡◌};
+ghost use Rattle.hr_tree.specs.declared.expressions.Exp.{Exp};
+ghost use Rattle.hr_parse_nodes.specs.Nodes.{condition_of, from_of, from_to_of, lambda_of, let_of, sequence_of};
+ghost use Rattle.hr_parse_parts.specs.Parts.{block_of};
 
 use hr_base::Item;
 use hr_parse_lexeme::{Held, Measured, Stop, nest};
@@ -9,7 +13,9 @@ use sqlite_items::Boxed;
 use std::alloc::Global;
 
 /// The node over parts with so many levels, which fit: what begins a node has shown it before.
-pub fn node(alloc: Global, exp: Exp, levels: u32) -> Result<Part<Exp>, Stop> {
+pub fn node(alloc: Global, exp: Exp, levels: u32) -> Result<Part<Exp>, Stop>
+    ensures { IfOk result (λ part. part ≡ record { tree = exp; height = levels + 1 }) }
+{
     let tree = Boxed::new(alloc, exp)?;
     nest(1, levels)?;
     Ok(Part {
@@ -18,7 +24,9 @@ pub fn node(alloc: Global, exp: Exp, levels: u32) -> Result<Part<Exp>, Stop> {
     })
 }
 
-pub fn group(alloc: Global, left: Item, part: Part<Exp>, right: Item) -> Result<Part<Exp>, Stop> {
+pub fn group(alloc: Global, left: Item, part: Part<Exp>, right: Item) -> Result<Part<Exp>, Stop>
+    ensures { IfOk result (λ made. made ≡ record { tree = Exp.Group left part.tree right; height = part.height + 1 }) }
+{
     let Part { tree, height } = part;
     node(alloc, Exp::Group(left, tree, right), height)
 }
@@ -29,7 +37,9 @@ pub fn left_section(
     part: Part<Exp>,
     operator: Held<Operator>,
     right: Item,
-) -> Result<Part<Exp>, Stop> {
+) -> Result<Part<Exp>, Stop>
+    ensures { IfOk result (λ made. made ≡ record { tree = Exp.LeftSection left part.tree operator right; height = part.height + 1 }) }
+{
     let Part { tree, height } = part;
     node(
         alloc,
@@ -44,7 +54,9 @@ pub fn right_section(
     operator: Held<Operator>,
     part: Part<Exp>,
     right: Item,
-) -> Result<Part<Exp>, Stop> {
+) -> Result<Part<Exp>, Stop>
+    ensures { IfOk result (λ made. made ≡ record { tree = Exp.RightSection left operator part.tree right; height = part.height + 1 }) }
+{
     let Part { tree, height } = part;
     node(
         alloc,
@@ -53,18 +65,24 @@ pub fn right_section(
     )
 }
 
-pub fn tuple(alloc: Global, left: Item, parts: Parts<Exp>, right: Item) -> Result<Part<Exp>, Stop> {
+pub fn tuple(alloc: Global, left: Item, parts: Parts<Exp>, right: Item) -> Result<Part<Exp>, Stop>
+    ensures { IfOk result (λ made. made ≡ record { tree = Exp.Tuple left parts.list right; height = parts.height + 1 }) }
+{
     let Parts { list, height } = parts;
     node(alloc, Exp::Tuple(left, list, right), height)
 }
 
-pub fn list(alloc: Global, left: Item, parts: Parts<Exp>, right: Item) -> Result<Part<Exp>, Stop> {
+pub fn list(alloc: Global, left: Item, parts: Parts<Exp>, right: Item) -> Result<Part<Exp>, Stop>
+    ensures { IfOk result (λ made. made ≡ record { tree = Exp.List left parts.list right; height = parts.height + 1 }) }
+{
     let Parts { list, height } = parts;
     node(alloc, Exp::List(left, list, right), height)
 }
 
 /// `[a ..]` or `[a, b ..]`.
-pub fn from(alloc: Global, dots: Dots, mark: Item, right: Item) -> Result<Part<Exp>, Stop> {
+pub fn from(alloc: Global, dots: Dots, mark: Item, right: Item) -> Result<Part<Exp>, Stop>
+    ensures { IfOk result (λ made. made ≡ from_of dots mark right) }
+{
     match dots {
         Dots::One(left, first) => {
             let Part { tree, height } = first;
@@ -90,7 +108,9 @@ pub fn from_to(
     mark: Item,
     last: Part<Exp>,
     right: Item,
-) -> Result<Part<Exp>, Stop> {
+) -> Result<Part<Exp>, Stop>
+    ensures { IfOk result (λ made. made ≡ from_to_of dots mark last right) }
+{
     let Part { tree: last, height } = last;
     match dots {
         Dots::One(left, first) => {
@@ -108,7 +128,9 @@ pub fn from_to(
     }
 }
 
-pub fn apply(alloc: Global, atoms: Many<Exp>) -> Result<Part<Exp>, Stop> {
+pub fn apply(alloc: Global, atoms: Many<Exp>) -> Result<Part<Exp>, Stop>
+    ensures { IfOk result (λ made. made ≡ record { tree = Exp.Apply atoms.list; height = atoms.height + 1 }) }
+{
     let Many { list, height } = atoms;
     node(alloc, Exp::Apply(list), height)
 }
@@ -118,7 +140,9 @@ pub fn annotated(
     part: Part<Exp>,
     colons: Item,
     ty: Measured<Ty>,
-) -> Result<Part<Exp>, Stop> {
+) -> Result<Part<Exp>, Stop>
+    ensures { IfOk result (λ made. made ≡ record { tree = Exp.Annotated part.tree colons ty.tree; height = max ty.height part.height + 1 }) }
+{
     let Part { tree, height } = part;
     let levels = ty.height.max(height);
     let Measured { tree: ty, .. } = ty;
@@ -131,7 +155,9 @@ pub fn sequence(
     operands: Operands<Exp>,
     minus: Option<Item>,
     last: Part<Exp>,
-) -> Result<Part<Exp>, Stop> {
+) -> Result<Part<Exp>, Stop>
+    ensures { IfOk result (λ made. made ≡ sequence_of operands minus last) }
+{
     if operands.is_empty() && minus.is_none() {
         return Ok(last);
     }
@@ -141,7 +167,9 @@ pub fn sequence(
     node(alloc, Exp::Infix(list), height)
 }
 
-pub fn comprehension(alloc: Global, begun: Comprehension, right: Item) -> Result<Part<Exp>, Stop> {
+pub fn comprehension(alloc: Global, begun: Comprehension, right: Item) -> Result<Part<Exp>, Stop>
+    ensures { IfOk result (λ made. made ≡ record { tree = Exp.Comprehension begun.left begun.first.tree begun.bar begun.qualifiers.list right; height = max begun.qualifiers.height begun.first.height + 1 }) }
+{
     let Comprehension {
         left,
         first,
@@ -168,7 +196,9 @@ pub fn lambda(
     patterns: Many<Pat>,
     arrow: Item,
     body: Read,
-) -> Result<Read, Stop> {
+) -> Result<Read, Stop>
+    ensures { IfOk result (λ made. made ≡ lambda_of mark patterns arrow body) }
+{
     let Many { list, height } = patterns;
     let Read {
         tree,
@@ -185,7 +215,9 @@ pub fn lambda(
     Ok(open(exp, Tail { ending, operator }))
 }
 
-pub fn local(alloc: Global, local: LetBody, body: Read) -> Result<Read, Stop> {
+pub fn local(alloc: Global, local: LetBody, body: Read) -> Result<Read, Stop>
+    ensures { IfOk result (λ made. made ≡ let_of local body) }
+{
     let LetBody {
         word,
         block,
@@ -218,7 +250,9 @@ pub fn condition(
     first: Part<Exp>,
     else_word: Item,
     second: Read,
-) -> Result<Read, Stop> {
+) -> Result<Read, Stop>
+    ensures { IfOk result (λ made. made ≡ condition_of condition first else_word second) }
+{
     let Condition {
         word,
         test,
@@ -247,7 +281,9 @@ pub fn case(
     part: Part<Exp>,
     of_word: Item,
     block: Blocked<Alt>,
-) -> Result<Part<Exp>, Stop> {
+) -> Result<Part<Exp>, Stop>
+    ensures { IfOk result (λ made. made ≡ record { tree = Exp.Case word part.tree of_word (block_of block); height = max part.height block.height + 1 }) }
+{
     let Part { tree, height } = part;
     let Blocked {
         layout,

@@ -1,0 +1,9 @@
+pub mod Places
+pub mod Words
+pub mod Parts
+pub mod Lists
+pub mod Blocks
+pub mod Finds
+pub mod Mixed
+pub mod Waits
+pub mod Steps

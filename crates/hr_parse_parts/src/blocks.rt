@@ -1,4 +1,5 @@
 //! Blocks, and right sides, of which a part is read.
+ghost use Rattle.hr_parse_lexeme.specs.declared.mark.Mark.{Mark};
 
 use crate::pieces::{Bounds, Pieces};
 use hr_base::{Ending, Item};

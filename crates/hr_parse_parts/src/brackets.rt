@@ -1,4 +1,5 @@
 //! What stands in parentheses and square brackets, of which a part is read.
+ghost use Rattle.std.specs.Prelude.{◌<◌};
 
 use crate::twins::Twin;
 use hr_base::Item;

@@ -1,5 +1,15 @@
 //! What stands in a block, how a block opens, and how it goes on: the Haskell 98 Report, sections 2.7 and 9.3. A block
 //! ends where the cursor closes it, a `;` stands for itself, and a part starts where the cursor says.
+ghost use Rattle.std.specs.Prelude.{IfOk, List, OnOk, [], max, true, ◌++◌, ◌+◌, ◌∷◌, ◌≡◌};
+ghost use Rattle.hr_rules.specs.declared.block.BlockKind.{BlockKind};
+ghost use Rattle.hr_rules.specs.declared.block.OpenBlock.{OpenBlock};
+ghost use Rattle.hr_layout.specs.Standing.{Standing, opened_as, opening};
+ghost use Rattle.hr_grammar.specs.Offside.{column_of};
+ghost use Rattle.hr_grammar.specs.Words.{IsRightBrace, IsSemicolon};
+ghost use Rattle.hr_parse_lexeme.specs.Reads.{IsAhead};
+ghost use Rattle.hr_tree.specs.declared.lists.Piece.{Piece};
+ghost use Rattle.hr_parse_parts.specs.Blocks.{Begins, bounds_behind};
+ghost use Rattle.hr_parse_parts.specs.Finds.{IsNext, Finds, FindsBraces, FindsMargin, MayTakeSemicolon, block_by};
 
 use crate::starts::begins_declaration;
 use hr_base::{Class, Ending, Item};
@@ -19,24 +29,32 @@ pub struct Pieces<T> {
 }
 
 impl<T: Drop> Pieces<T> {
-    pub fn new(alloc: Global) -> Pieces<T> {
+    pub fn new(alloc: Global) -> Pieces<T>
+        ensures { result ≡ record { list = []; height = 0 } }
+    {
         Pieces {
             list: Children::new(alloc),
             height: 0,
         }
     }
 
-    pub fn semicolon(&mut self, item: Item) -> Result<(), AllocError> {
+    pub fn semicolon(&mut self, item: Item) -> Result<(), AllocError>
+        ensures { OnOk result (self.new ≡ record { list = self.old.list ++ Piece.Semicolon item ∷ []; height = self.old.height }) }
+    {
         self.list.push(Piece::Semicolon(item))
     }
 
-    pub fn part(&mut self, part: Stated<T>) -> Result<(), AllocError> {
+    pub fn part(&mut self, part: Stated<T>) -> Result<(), AllocError>
+        ensures { OnOk result (self.new ≡ record { list = self.old.list ++ Piece.Part part.tree ∷ []; height = max self.old.height part.height }) }
+    {
         let Stated { tree, height, .. } = part;
         self.height = self.height.max(height);
         self.list.push(Piece::Part(tree.into_inner()))
     }
 
-    pub fn closed(self, layout: Layout) -> Result<Blocked<T>, Stop> {
+    pub fn closed(self, layout: Layout) -> Result<Blocked<T>, Stop>
+        ensures { IfOk result (λ block. block ≡ record { layout = layout; pieces = self.list; height = self.height + 1 }) }
+    {
         let Pieces { list, height } = self;
         nest(1, height)?;
         Ok(Blocked {
@@ -58,7 +76,9 @@ pub enum Bounds {
 
 impl Bounds {
     /// Behind a part that ends so.
-    pub fn behind(self, ending: Ending) -> Bounds {
+    pub fn behind(self, ending: Ending) -> Bounds
+        ensures { result ≡ bounds_behind self ending }
+    {
         match self {
             Bounds::Margin(col, _) => Bounds::Margin(col, ending),
             Bounds::Braces(left, _) => Bounds::Braces(left, false),
@@ -83,7 +103,9 @@ pub enum Start {
 }
 
 /// Takes the brace of a block that opened so.
-pub fn opened_by(cursor: &mut Cursor, opened: Opened) -> Result<Start, Stop> {
+pub fn opened_by(cursor: &mut Cursor, opened: Opened) -> Result<Start, Stop>
+    ensures { IfOk result (λ start. (kind : BlockKind) (before : Standing) → opened ≡ opening before → cursor.old ≡ opened_as kind before → Begins kind start before cursor.new) }
+{
     match opened {
         Opened::Empty => Ok(Start::Empty(column(cursor))),
         Opened::Implicit { col } => Ok(Start::Open(Bounds::Margin(col, Ending::Nothing))),
@@ -103,14 +125,18 @@ pub enum Ahead {
 }
 
 /// The next piece of a block, or its end.
-pub fn piece_ahead(cursor: &mut Cursor, bounds: Bounds) -> Result<Ahead, Stop> {
+pub fn piece_ahead(cursor: &mut Cursor, bounds: Bounds) -> Result<Ahead, Stop>
+    ensures { IfOk result (λ ahead. (kind : BlockKind) (outer : List OpenBlock) → cursor.old.blocks ≡ block_by kind bounds ∷ outer → Finds kind bounds outer ahead cursor.old cursor.new) }
+{
     match bounds {
         Bounds::Margin(col, ending) => margin_ahead(cursor, col, ending),
         Bounds::Braces(left, begins) => braces_ahead(cursor, left, begins),
     }
 }
 
-fn margin_ahead(cursor: &mut Cursor, col: u32, ending: Ending) -> Result<Ahead, Stop> {
+fn margin_ahead(cursor: &mut Cursor, col: u32, ending: Ending) -> Result<Ahead, Stop>
+    ensures { IfOk result (λ ahead. (kind : BlockKind) (outer : List OpenBlock) → cursor.old.blocks ≡ OpenBlock.Implicit col kind ∷ outer → FindsMargin kind col ending outer ahead cursor.old cursor.new) }
+{
     if cursor.close(ending) {
         return Ok(Ahead::End(Layout::Implicit { col }));
     }
@@ -124,7 +150,9 @@ fn margin_ahead(cursor: &mut Cursor, col: u32, ending: Ending) -> Result<Ahead, 
     Err(Stop::Syntax)
 }
 
-fn braces_ahead(cursor: &mut Cursor, left: Item, begins: bool) -> Result<Ahead, Stop> {
+fn braces_ahead(cursor: &mut Cursor, left: Item, begins: bool) -> Result<Ahead, Stop>
+    ensures { IfOk result (λ ahead. (outer : List OpenBlock) → cursor.old.blocks ≡ OpenBlock.Explicit ∷ outer → FindsBraces left begins outer ahead cursor.old cursor.new) }
+{
     if is_right_brace(cursor) {
         let right = past(cursor)?;
         return Ok(Ahead::End(Layout::Explicit(left, right)));
@@ -140,7 +168,9 @@ fn braces_ahead(cursor: &mut Cursor, left: Item, begins: bool) -> Result<Ahead, 
 }
 
 /// The column of the next lexeme, or 0 where there is none.
-fn column(cursor: &Cursor) -> u32 {
+fn column(cursor: &Cursor) -> u32
+    ensures { result ≡ column_of cursor.now.rest }
+{
     match cursor.peek() {
         None => 0,
         Some(_) => cursor.pos().col,
@@ -148,7 +178,9 @@ fn column(cursor: &Cursor) -> u32 {
 }
 
 /// Takes a `;`, wherever it stands: in a block without braces it begins a piece where the block doesn't end.
-fn semicolon(cursor: &mut Cursor) -> Option<Item> {
+fn semicolon(cursor: &mut Cursor) -> Option<Item>
+    ensures { MayTakeSemicolon result cursor.old cursor.new }
+{
     if is_semicolon(cursor) {
         cursor.take()
     } else {
@@ -156,14 +188,18 @@ fn semicolon(cursor: &mut Cursor) -> Option<Item> {
     }
 }
 
-fn is_semicolon(cursor: &Cursor) -> bool {
+fn is_semicolon(cursor: &Cursor) -> bool
+    ensures { result ≡ true → IsNext IsSemicolon cursor.now.rest }
+{
     match cursor.peek() {
         None => false,
         Some(lexeme) => Mark::Semicolon.is(lexeme),
     }
 }
 
-fn is_right_brace(cursor: &Cursor) -> bool {
+fn is_right_brace(cursor: &Cursor) -> bool
+    ensures { result ≡ true → IsAhead IsRightBrace cursor.now.blocks cursor.now.rest }
+{
     match cursor.ahead() {
         Some(lexeme) => lexeme.class == Class::Special && lexeme.text.is(b"}"),
         None => false,
@@ -172,7 +208,9 @@ fn is_right_brace(cursor: &Cursor) -> bool {
 
 /// A block of declarations opens below a node whose nesting is `depth`. It is too deep only behind a `let`, and there
 /// alone where the next lexeme can stand behind the `let` at all: in the block, or as its `in`.
-pub fn fits(cursor: &mut Cursor, depth: u32, opened: Opened) -> Result<(), Stop> {
+pub fn fits(cursor: &mut Cursor, depth: u32, opened: Opened) -> Result<(), Stop>
+    ensures { OnOk result (cursor.new ≡ cursor.old) }
+{
     if depth < LIMIT {
         return Ok(());
     }

@@ -1,5 +1,7 @@
 //! Where an expression stands.
 ghost use Rattle.std.specs.Prelude.{◌≡◌, false};
+ghost use Rattle.hr_parse_parts.specs.declared.place.Annotations.{Annotations};
+ghost use Rattle.hr_parse_parts.specs.Places.{inner_of};
 
 use hr_parse_pattern::below;
 
@@ -40,27 +42,37 @@ impl Place {
     }
 
     /// In brackets or a block.
-    pub fn whole(depth: u32) -> Place {
+    pub fn whole(depth: u32) -> Place
+        ensures { result.annotations ≡ Annotations.Allowed }
+    {
         Place::at(depth, Annotations::Allowed, false)
     }
 
     /// First in parentheses.
-    pub fn parenthesized(depth: u32) -> Place {
+    pub fn parenthesized(depth: u32) -> Place
+        ensures { result.annotations ≡ Annotations.Allowed }
+    {
         Place::at(depth, Annotations::Allowed, true)
     }
 
     /// In a guard.
-    pub fn guard(depth: u32) -> Place {
+    pub fn guard(depth: u32) -> Place
+        ensures { result.annotations ≡ Annotations.Barred }
+    {
         Place::at(depth, Annotations::Barred, false)
     }
 
     /// In a section, behind its operator.
-    pub fn section(depth: u32) -> Place {
+    pub fn section(depth: u32) -> Place
+        ensures { result.annotations ≡ Annotations.Inner }
+    {
         Place::at(depth, Annotations::Inner, false)
     }
 
     /// At the end of the expression that stands here, and one node deeper.
-    pub fn deeper(self) -> Place {
+    pub fn deeper(self) -> Place
+        ensures { result.annotations ≡ inner_of self.annotations }
+    {
         let annotations = match self.annotations {
             Annotations::Barred => Annotations::Barred,
             Annotations::Inner => Annotations::Allowed,
@@ -70,13 +82,17 @@ impl Place {
     }
 
     /// Inside the expression that stands here, before its end, and one node deeper.
-    pub fn inside(self) -> Place {
+    pub fn inside(self) -> Place
+        ensures { result.annotations ≡ inner_of self.annotations }
+    {
         let deeper = self.deeper();
         Place::at(deeper.depth, deeper.annotations, false)
     }
 
     /// The same place, where a pattern may stand too or not.
-    pub fn binding(self, may_bind: bool) -> Place {
+    pub fn binding(self, may_bind: bool) -> Place
+        ensures { result.annotations ≡ self.annotations }
+    {
         Place { may_bind, ..self }
     }
 }

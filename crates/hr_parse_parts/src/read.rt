@@ -1,4 +1,7 @@
 //! What was read.
+ghost use Rattle.std.specs.Prelude.{IfOk, None, false, true, ◌≡◌};
+ghost use Rattle.hr_base.specs.declared.lexeme.Ending.{Ending};
+ghost use Rattle.hr_parse_parts.specs.declared.read.Next.{Next};
 
 use crate::twins::Twin;
 use hr_base::Ending;
@@ -50,7 +53,9 @@ pub const ANNOTATED: Ending = Ending::Annotated {
 };
 
 /// An operand that an operator may follow.
-pub fn operand(part: Part<Exp>, ending: Ending, twin: Option<Held<Twin>>) -> Read {
+pub fn operand(part: Part<Exp>, ending: Ending, twin: Option<Held<Twin>>) -> Read
+    ensures { result ≡ record { tree = part.tree; height = part.height; ending = ending; next = Next.Operator; operator = None; twin = twin } }
+{
     let Part { tree, height } = part;
     Read {
         tree,
@@ -63,7 +68,9 @@ pub fn operand(part: Part<Exp>, ending: Ending, twin: Option<Held<Twin>>) -> Rea
 }
 
 /// An expression that has taken all that follows.
-pub fn open(part: Part<Exp>, tail: Tail) -> Read {
+pub fn open(part: Part<Exp>, tail: Tail) -> Read
+    ensures { result ≡ record { tree = part.tree; height = part.height; ending = tail.ending; next = Next.Section; operator = tail.operator; twin = None } }
+{
     let Part { tree, height } = part;
     let Tail { ending, operator } = tail;
     Read {
@@ -84,7 +91,10 @@ pub struct Tail {
 }
 
 /// The tree of an expression behind which no operator was taken.
-pub fn part(read: Read) -> Result<Part<Exp>, Stop> {
+pub fn part(read: Read) -> Result<Part<Exp>, Stop>
+    ensures tree { IfOk result (λ part. part ≡ record { tree = read.tree; height = read.height }) }
+    ensures alone { IfOk result (λ part. read.operator ≡ None) }
+{
     let Read {
         tree,
         height,
@@ -104,7 +114,10 @@ pub struct Inside {
     pub twin: Option<Held<Twin>>,
 }
 
-pub fn alone(read: Read) -> Result<Inside, Stop> {
+pub fn alone(read: Read) -> Result<Inside, Stop>
+    ensures trees { IfOk result (λ found. found ≡ record { part = record { tree = read.tree; height = read.height }; twin = read.twin }) }
+    ensures alone { IfOk result (λ found. read.operator ≡ None) }
+{
     let Read {
         tree,
         height,
@@ -122,7 +135,11 @@ pub fn alone(read: Read) -> Result<Inside, Stop> {
 }
 
 /// The trees of an expression that an operator or `::` may follow.
-pub fn followed(read: Read) -> Result<Inside, Stop> {
+pub fn followed(read: Read) -> Result<Inside, Stop>
+    ensures trees { IfOk result (λ found. found ≡ record { part = record { tree = read.tree; height = read.height }; twin = read.twin }) }
+    ensures alone { IfOk result (λ found. read.operator ≡ None) }
+    ensures next { IfOk result (λ found. read.next ≡ Next.Operator) }
+{
     match read.next {
         Next::Operator => alone(read),
         _ => Err(Stop::Syntax),
@@ -130,7 +147,9 @@ pub fn followed(read: Read) -> Result<Inside, Stop> {
 }
 
 /// An expression with `::` and its type.
-pub fn typed(part: Part<Exp>) -> Read {
+pub fn typed(part: Part<Exp>) -> Read
+    ensures { result ≡ record { tree = part.tree; height = part.height; ending = Ending.Annotated true false; next = Next.Nothing; operator = None; twin = None } }
+{
     let Part { tree, height } = part;
     Read {
         tree,

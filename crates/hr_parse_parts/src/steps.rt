@@ -1,6 +1,10 @@
 //! What is read next, and what waits for it. Expressions, declarations and blocks stand in one another, so none of
 //! their readers calls another one: each takes lexemes up to the next part of its own and says what that is, and what
 //! waits for the part stands on a stack. So a text may nest as deep as it likes, and each reader is proved alone.
+ghost use Rattle.std.specs.Prelude.{IfOk, ◌≡◌};
+ghost use Rattle.hr_parse_parts.specs.declared.steps.Step.{Step};
+ghost use Rattle.hr_parse_parts.specs.declared.steps.Value.{Value};
+ghost use Rattle.hr_parse_parts.specs.Mixed.{value_of};
 
 use crate::blocks::{Alts, Decls, Left, Side, Siding};
 use crate::brackets::Bracket;
@@ -71,35 +75,51 @@ pub enum Step {
     Done(Held<Value>),
 }
 
-pub fn go(goal: Goal) -> Step {
+pub fn go(goal: Goal) -> Step
+    ensures { result ≡ Step.Read goal }
+{
     Step::Read(Held::new(goal))
 }
 
-pub fn wait(frame: Frame, goal: Goal) -> Step {
+pub fn wait(frame: Frame, goal: Goal) -> Step
+    ensures { result ≡ Step.Wait frame goal }
+{
     Step::Wait(Held::new(frame), Held::new(goal))
 }
 
-fn done(value: Value) -> Step {
+fn done(value: Value) -> Step
+    ensures { result ≡ Step.Done value }
+{
     Step::Done(Held::new(value))
 }
 
-pub fn done_expression(read: Read) -> Step {
+pub fn done_expression(read: Read) -> Step
+    ensures { result ≡ Step.Done (Value.Expression read) }
+{
     done(Value::Expression(Held::new(read)))
 }
 
-pub fn done_pattern(part: Part<Pat>) -> Step {
+pub fn done_pattern(part: Part<Pat>) -> Step
+    ensures { result ≡ Step.Done (Value.Pattern part) }
+{
     done(Value::Pattern(part))
 }
 
-pub fn done_declarations(block: Blocked<Decl>) -> Step {
+pub fn done_declarations(block: Blocked<Decl>) -> Step
+    ensures { result ≡ Step.Done (Value.Declarations block) }
+{
     done(Value::Declarations(Held::new(block)))
 }
 
-pub fn done_alternatives(block: Blocked<Alt>) -> Step {
+pub fn done_alternatives(block: Blocked<Alt>) -> Step
+    ensures { result ≡ Step.Done (Value.Alternatives block) }
+{
     done(Value::Alternatives(Held::new(block)))
 }
 
-pub fn done_side(side: Side) -> Step {
+pub fn done_side(side: Side) -> Step
+    ensures { result ≡ Step.Done (Value.Side side) }
+{
     done(Value::Side(Held::new(side)))
 }
 
@@ -110,7 +130,9 @@ pub enum Mixed {
     Pattern(Part<Pat>),
 }
 
-pub fn mixed_of(value: Held<Value>) -> Result<Mixed, Stop> {
+pub fn mixed_of(value: Held<Value>) -> Result<Mixed, Stop>
+    ensures { IfOk result (λ found. value ≡ value_of found) }
+{
     match value.take() {
         Value::Expression(read) => Ok(Mixed::Expression(read)),
         Value::Pattern(part) => Ok(Mixed::Pattern(part)),
@@ -121,28 +143,36 @@ pub fn mixed_of(value: Held<Value>) -> Result<Mixed, Stop> {
 }
 
 /// The expression that was read.
-pub fn expression(value: Held<Value>) -> Result<Read, Stop> {
+pub fn expression(value: Held<Value>) -> Result<Read, Stop>
+    ensures { IfOk result (λ read. value ≡ Value.Expression read) }
+{
     match value.take() {
         Value::Expression(read) => Ok(read.take()),
         _ => Err(Stop::Syntax),
     }
 }
 
-pub fn declarations_of(value: Held<Value>) -> Result<Blocked<Decl>, Stop> {
+pub fn declarations_of(value: Held<Value>) -> Result<Blocked<Decl>, Stop>
+    ensures { IfOk result (λ block. value ≡ Value.Declarations block) }
+{
     match value.take() {
         Value::Declarations(block) => Ok(block.take()),
         _ => Err(Stop::Syntax),
     }
 }
 
-pub fn alternatives_of(value: Held<Value>) -> Result<Blocked<Alt>, Stop> {
+pub fn alternatives_of(value: Held<Value>) -> Result<Blocked<Alt>, Stop>
+    ensures { IfOk result (λ block. value ≡ Value.Alternatives block) }
+{
     match value.take() {
         Value::Alternatives(block) => Ok(block.take()),
         _ => Err(Stop::Syntax),
     }
 }
 
-pub fn side_of(value: Held<Value>) -> Result<Side, Stop> {
+pub fn side_of(value: Held<Value>) -> Result<Side, Stop>
+    ensures { IfOk result (λ side. value ≡ Value.Side side) }
+{
     match value.take() {
         Value::Side(side) => Ok(side.take()),
         _ => Err(Stop::Syntax),

@@ -1,5 +1,17 @@
 //! Patterns that have the lexemes of an expression. What may be an expression or a pattern, as a qualifier's
 //! beginning, is read once, and both are built, until a lexeme comes that only one of them can go on with.
+ghost use Rattle.std.specs.Prelude.{◌≡◌, ◌≤◌, ◌+◌, ℕ, Some, IfOk, IfSome};
+ghost use Rattle.std.specs.Option.{option_map};
+ghost use Rattle.hr_layout.specs.Standing.{Standing};
+ghost use Rattle.hr_tree.specs.Names.{constructor_items, operator_items, variable_items};
+ghost use Rattle.hr_base.specs.declared.lexeme.Class.{Class};
+ghost use Rattle.hr_grammar.specs.Words.{IsComma, IsLeftParen, IsLeftSquare, IsLiteral, IsMinus, IsOf, IsRightParen, IsRightSquare};
+ghost use Rattle.hr_grammar.specs.Spelled.{IsConstructor, IsConstructorOperator, IsVariable};
+ghost use Rattle.hr_grammar.specs.Nodes.{PatPlace};
+ghost use Rattle.hr_parse_lexeme.specs.Reads.{Accepts, Spells, Takes};
+ghost use Rattle.hr_parse_pattern.specs.Patterns.{ReadsPat};
+ghost use Rattle.hr_parse_parts.specs.Lists.{AsMany, MayApplied, MayOperands, MayParts};
+ghost use Rattle.hr_parse_parts.specs.Parts.{MayTwin, ReadsTwin};
 
 use hr_base::Item;
 use hr_parse_lexeme::{Held, Stop, nest};
@@ -24,7 +36,9 @@ pub struct Applied {
 }
 
 /// The pattern, of which nothing more is read.
-pub fn pattern_of(alloc: Global, twin: Held<Twin>) -> Result<Part<Pat>, AllocError> {
+pub fn pattern_of(alloc: Global, twin: Held<Twin>) -> Result<Part<Pat>, AllocError>
+    ensures { IfOk result (λ part. (place : PatPlace) (before after : Standing) → ReadsTwin place twin before after → ReadsPat place part before after) }
+{
     match twin.take() {
         Twin::Named(named) => {
             let part = leaf(alloc, Pat::Constructor(named.take()))?;
@@ -43,7 +57,9 @@ fn operand_of(
     alloc: Global,
     minus: Option<&Item>,
     twin: Held<Twin>,
-) -> Result<Option<Part<Pat>>, AllocError> {
+) -> Result<Option<Part<Pat>>, AllocError>
+    ensures { IfOk result (λ found. IfSome found (λ part. (before middle after : Standing) → Accepts IsMinus (option_map (λ item. item.now) minus.entry) before middle → ReadsTwin PatPlace.Operand twin middle after → ReadsPat PatPlace.Operand part before after)) }
+{
     let Some(minus) = minus else {
         let part = pattern_of(alloc, twin)?;
         return Ok(Some(part));
@@ -67,7 +83,9 @@ pub fn is_named(twin: &Option<Held<Twin>>) -> bool {
 }
 
 /// The application to patterns of what may be a constructor.
-pub fn head_of(alloc: Global, twin: Option<Held<Twin>>) -> Option<Applied> {
+pub fn head_of(alloc: Global, twin: Option<Held<Twin>>) -> Option<Applied>
+    ensures { (before after : Standing) → MayTwin PatPlace.Atomic twin before after → MayApplied result before after }
+{
     match twin {
         None => None,
         Some(twin) => match twin.take() {
@@ -85,7 +103,9 @@ pub fn one_more(
     alloc: Global,
     applied: Option<Applied>,
     twin: Option<Held<Twin>>,
-) -> Result<Option<Applied>, AllocError> {
+) -> Result<Option<Applied>, AllocError>
+    ensures { IfOk result (λ all. (before middle after : Standing) → MayApplied applied before middle → MayTwin PatPlace.Atomic twin middle after → MayApplied all before after) }
+{
     let Some(applied) = applied else {
         return Ok(None);
     };
@@ -104,7 +124,9 @@ pub fn one_more(
     }))
 }
 
-pub fn applied_of(alloc: Global, head: Option<Applied>) -> Result<Option<Held<Twin>>, Stop> {
+pub fn applied_of(alloc: Global, head: Option<Applied>) -> Result<Option<Held<Twin>>, Stop>
+    ensures { IfOk result (λ twin. (before after : Standing) → MayApplied head before after → MayTwin PatPlace.Operand twin before after) }
+{
     let Some(head) = head else {
         return Ok(None);
     };
@@ -118,7 +140,10 @@ pub fn applied_of(alloc: Global, head: Option<Applied>) -> Result<Option<Held<Tw
 }
 
 /// No parts yet, where patterns may stand.
-pub fn no_parts(alloc: Global, may_bind: bool) -> Option<Parts<Pat>> {
+pub fn no_parts(alloc: Global, may_bind: bool) -> Option<Parts<Pat>>
+    ensures reads { (here : Standing) → MayParts result here here }
+    ensures many { AsMany result 0 }
+{
     if may_bind {
         Some(Parts::new(alloc))
     } else {
@@ -132,7 +157,10 @@ pub fn one_part_more(
     parts: Option<Parts<Pat>>,
     twin: Option<Held<Twin>>,
     comma: &Item,
-) -> Result<Option<Parts<Pat>>, AllocError> {
+) -> Result<Option<Parts<Pat>>, AllocError>
+    ensures reads { IfOk result (λ all. (before middle behind after : Standing) → MayParts parts before middle → MayTwin PatPlace.Whole twin middle behind → Takes IsComma comma.now behind after → MayParts all before after) }
+    ensures many { IfOk result (λ all. (count : ℕ) → AsMany parts count → AsMany all (count + 1)) }
+{
     let Some(mut parts) = parts else {
         return Ok(None);
     };
@@ -150,7 +178,9 @@ pub fn group_of(
     left: &Item,
     twin: Option<Held<Twin>>,
     right: &Item,
-) -> Result<Option<Held<Twin>>, Stop> {
+) -> Result<Option<Held<Twin>>, Stop>
+    ensures { IfOk result (λ whole. (before inner outer after : Standing) → Takes IsLeftParen left.now before inner → MayTwin PatPlace.Whole twin inner outer → Takes IsRightParen right.now outer after → MayTwin PatPlace.Atomic whole before after) }
+{
     let Some(twin) = twin else {
         return Ok(None);
     };
@@ -169,7 +199,9 @@ pub fn tuple_of(
     parts: Option<Parts<Pat>>,
     twin: Option<Held<Twin>>,
     right: &Item,
-) -> Result<Option<Held<Twin>>, Stop> {
+) -> Result<Option<Held<Twin>>, Stop>
+    ensures { IfOk result (λ whole. (count : ℕ) (before inner middle outer after : Standing) → AsMany parts count → 1 ≤ count → count ≤ 14 → Takes IsLeftParen left.now before inner → MayParts parts inner middle → MayTwin PatPlace.Whole twin middle outer → Takes IsRightParen right.now outer after → MayTwin PatPlace.Atomic whole before after) }
+{
     let Some(mut parts) = parts else {
         return Ok(None);
     };
@@ -192,7 +224,9 @@ pub fn list_of(
     parts: Option<Parts<Pat>>,
     twin: Option<Held<Twin>>,
     right: &Item,
-) -> Result<Option<Held<Twin>>, Stop> {
+) -> Result<Option<Held<Twin>>, Stop>
+    ensures { IfOk result (λ whole. (before inner middle outer after : Standing) → Takes IsLeftSquare left.now before inner → MayParts parts inner middle → MayTwin PatPlace.Whole twin middle outer → Takes IsRightSquare right.now outer after → MayTwin PatPlace.Atomic whole before after) }
+{
     let Some(mut parts) = parts else {
         return Ok(None);
     };
@@ -209,7 +243,9 @@ pub fn list_of(
 }
 
 /// No operands yet, where patterns may stand.
-pub fn no_operands(alloc: Global, may_bind: bool) -> Option<Operands<Pat>> {
+pub fn no_operands(alloc: Global, may_bind: bool) -> Option<Operands<Pat>>
+    ensures { (here : Standing) → MayOperands result here here }
+{
     if may_bind {
         Some(Operands::new(alloc))
     } else {
@@ -224,7 +260,9 @@ pub fn one_operand_more(
     minus: Option<&Item>,
     twin: Option<Held<Twin>>,
     operator: &Operator,
-) -> Result<Option<Operands<Pat>>, AllocError> {
+) -> Result<Option<Operands<Pat>>, AllocError>
+    ensures { IfOk result (λ all. (before middle inner outer after : Standing) → MayOperands operands before middle → Accepts IsMinus (option_map (λ item. item.now) minus.entry) middle inner → MayTwin PatPlace.Operand twin inner outer → Spells IsConstructorOperator operator_items operator.now outer after → MayOperands all before after) }
+{
     let Some(mut operands) = operands else {
         return Ok(None);
     };
@@ -245,7 +283,9 @@ pub fn sequence_of(
     operands: Option<Operands<Pat>>,
     minus: Option<&Item>,
     twin: Option<Held<Twin>>,
-) -> Result<Option<Held<Twin>>, Stop> {
+) -> Result<Option<Held<Twin>>, Stop>
+    ensures { IfOk result (λ whole. (before middle inner after : Standing) → MayOperands operands before middle → Accepts IsMinus (option_map (λ item. item.now) minus.entry) middle inner → MayTwin PatPlace.Operand twin inner after → MayTwin PatPlace.Whole whole before after) }
+{
     let Some(operands) = operands else {
         return Ok(None);
     };
@@ -263,7 +303,9 @@ pub fn sequence_of(
     Ok(Some(Held::new(Twin::Pattern(part))))
 }
 
-fn same_operator(operator: &Operator) -> Result<Operator, AllocError> {
+fn same_operator(operator: &Operator) -> Result<Operator, AllocError>
+    ensures { IfOk result (λ same. same ≡ operator.now) }
+{
     match operator {
         Operator::Symbol(symbol) => Ok(Operator::Symbol(symbol.clone()?)),
         Operator::Quoted(left, name, right) => Ok(Operator::Quoted(
@@ -275,7 +317,9 @@ fn same_operator(operator: &Operator) -> Result<Operator, AllocError> {
 }
 
 /// The same number in a pattern, where one may stand.
-pub fn number_twin(number: &Item, may_bind: bool) -> Result<Option<Held<Twin>>, AllocError> {
+pub fn number_twin(number: &Item, may_bind: bool) -> Result<Option<Held<Twin>>, AllocError>
+    ensures { IfOk result (λ twin. (before after : Standing) → Takes (IsOf Class.Integer) number.now before after → MayTwin PatPlace.Atomic twin before after) }
+{
     if !may_bind {
         return Ok(None);
     }
@@ -287,7 +331,9 @@ pub fn literal_twin(
     alloc: Global,
     literal: &Item,
     may_bind: bool,
-) -> Result<Option<Held<Twin>>, AllocError> {
+) -> Result<Option<Held<Twin>>, AllocError>
+    ensures { IfOk result (λ twin. (before after : Standing) → Takes IsLiteral literal.now before after → MayTwin PatPlace.Atomic twin before after) }
+{
     if !may_bind {
         return Ok(None);
     }
@@ -301,7 +347,9 @@ pub fn bound_twin(
     alloc: Global,
     variable: &Variable,
     may_bind: bool,
-) -> Result<Option<Held<Twin>>, AllocError> {
+) -> Result<Option<Held<Twin>>, AllocError>
+    ensures { IfOk result (λ twin. (before after : Standing) → Spells IsVariable variable_items variable.now before after → MayTwin PatPlace.Atomic twin before after) }
+{
     if !may_bind {
         return Ok(None);
     }
@@ -310,7 +358,9 @@ pub fn bound_twin(
     Ok(Some(Held::new(Twin::Pattern(part))))
 }
 
-fn same_variable(variable: &Variable) -> Result<Variable, AllocError> {
+fn same_variable(variable: &Variable) -> Result<Variable, AllocError>
+    ensures { IfOk result (λ same. same ≡ variable.now) }
+{
     match variable {
         Variable::Name(name) => Ok(Variable::Name(name.clone()?)),
         Variable::Symbol(left, symbol, right) => Ok(Variable::Symbol(
@@ -322,7 +372,9 @@ fn same_variable(variable: &Variable) -> Result<Variable, AllocError> {
 }
 
 /// The same constructor in a pattern, where one may stand.
-pub fn named_twin(named: &Constructor, may_bind: bool) -> Result<Option<Held<Twin>>, AllocError> {
+pub fn named_twin(named: &Constructor, may_bind: bool) -> Result<Option<Held<Twin>>, AllocError>
+    ensures { IfOk result (λ twin. (before after : Standing) → Spells IsConstructor constructor_items named.now before after → MayTwin PatPlace.Atomic twin before after) }
+{
     if !may_bind {
         return Ok(None);
     }
@@ -330,7 +382,9 @@ pub fn named_twin(named: &Constructor, may_bind: bool) -> Result<Option<Held<Twi
     Ok(Some(Held::new(Twin::Named(Held::new(named)))))
 }
 
-fn same_constructor(named: &Constructor) -> Result<Constructor, AllocError> {
+fn same_constructor(named: &Constructor) -> Result<Constructor, AllocError>
+    ensures { IfOk result (λ same. same ≡ named.now) }
+{
     match named {
         Constructor::Name(name) => Ok(Constructor::Name(name.clone()?)),
         Constructor::Symbol(left, symbol, right) => Ok(Constructor::Symbol(
@@ -351,7 +405,9 @@ fn same_constructor(named: &Constructor) -> Result<Constructor, AllocError> {
 }
 
 /// Stops, where no pattern may stand.
-pub fn refused<T: Drop>(found: Option<T>) -> Result<T, Stop> {
+pub fn refused<T: Drop>(found: Option<T>) -> Result<T, Stop>
+    ensures { IfOk result (λ value. found ≡ Some value) }
+{
     match found {
         None => Err(Stop::Syntax),
         Some(found) => Ok(found),

@@ -1,0 +1,7 @@
+pub mod Places
+pub mod Parts
+pub mod Listing
+pub mod Patterns
+pub mod Margins
+pub mod Openings
+pub mod Stepping
