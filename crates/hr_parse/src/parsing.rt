@@ -1,5 +1,8 @@
 //! Modules: the Haskell 98 Report, chapter 5. The first lexeme decides whether there is a header.
-ghost use Rattle.std.specs.Prelude.{◌≡◌, IfOk};
+ghost use Rattle.std.specs.Prelude.{◌≡◌, [], IfOk};
+ghost use Rattle.hr_grammar_cases.specs.Modules.{Derives};
+ghost use Rattle.hr_parse.specs.Modules.{ReadsHeader, ReadsModule};
+ghost use Rattle.hr_parse_parts.specs.Parts.{block_of};
 
 use hr_base::Items;
 use hr_layout::Cursor;
@@ -18,6 +21,7 @@ struct Whole {
 
 /// The tree of the items.
 pub fn parse(alloc: Global, items: Items) -> Result<Module, ParseError>
+    ensures reads { IfOk result (λ tree. Derives 256 tree items.list) }
     ensures tail { IfOk result (λ tree. tree.tail ≡ items.tail) }
 {
     let Items { list, tail } = items;
@@ -41,7 +45,9 @@ pub fn parse(alloc: Global, items: Items) -> Result<Module, ParseError>
 }
 
 /// The header, if the text begins with one, and the body, behind which nothing stands.
-fn read(alloc: Global, cursor: &mut Cursor, notes: &mut Notes) -> Result<Whole, Stop> {
+fn read(alloc: Global, cursor: &mut Cursor, notes: &mut Notes) -> Result<Whole, Stop>
+    ensures { IfOk result (λ whole. cursor.old.blocks ≡ [] → ReadsModule whole.header (block_of whole.body) cursor.old.rest) }
+{
     let header = maybe_header(alloc, cursor, notes)?;
     let body = declarations(alloc, cursor, notes, 0)?;
     nest(0, body.height)?;
@@ -52,7 +58,9 @@ fn maybe_header(
     alloc: Global,
     cursor: &mut Cursor,
     notes: &mut Notes,
-) -> Result<Held<Option<Header>>, Stop> {
+) -> Result<Held<Option<Header>>, Stop>
+    ensures { IfOk result (λ header. ReadsHeader header cursor.old cursor.new) }
+{
     if !is_next(cursor, Mark::Module) {
         return Ok(Held::new(None));
     }

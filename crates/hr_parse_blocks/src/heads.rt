@@ -1,5 +1,18 @@
 //! Declarations: the Haskell 98 Report, chapter 4.
-ghost use Rattle.std.specs.Prelude.{◌≤◌};
+ghost use Rattle.std.specs.Prelude.{IfOk, true, ◌≡◌, ◌≤◌};
+ghost use Rattle.hr_layout.specs.Standing.{Standing};
+ghost use Rattle.hr_tree.specs.Names.{variable_items};
+ghost use Rattle.hr_grammar.specs.Declarations.{takes_local};
+ghost use Rattle.hr_grammar.specs.Nodes.{DeclPlace};
+ghost use Rattle.hr_grammar.specs.Spelled.{IsVariable};
+ghost use Rattle.hr_grammar_cases.specs.Modules.{comes_behind};
+ghost use Rattle.hr_parse_declaration.specs.Stated.{ReadsDecl};
+ghost use Rattle.hr_parse_lexeme.specs.declared.mark.Mark.{Mark};
+ghost use Rattle.hr_parse_lexeme.specs.Reads.{Spells};
+ghost use Rattle.hr_parse_parts.specs.Blocks.{ReadsLeft, first_of, kind_of};
+ghost use Rattle.hr_parse_blocks.specs.Found.{ReadsFound};
+ghost use Rattle.hr_parse_parts.specs.Parts.{ReadsSide};
+ghost use Rattle.hr_parse_parts.specs.Places.{block_place, decl_place};
 
 use hr_layout::Cursor;
 use hr_parse_declaration::{Stated, fixity, import, signature, type_declaration};
@@ -19,7 +32,12 @@ pub(crate) enum Found {
 }
 
 /// The position of a part that begins so: only imports stand before the other parts.
-pub(crate) fn position_behind(position: Position, kind: Kind) -> Position {
+pub(crate) fn position_behind(position: Position, kind: Kind) -> Position
+    ensures comes { comes_behind (decl_place position) (decl_place result) ≡ true }
+    ensures kind { kind_of result ≡ kind_of position }
+    ensures first { first_of result ≡ first_of position }
+    ensures block { block_place result ≡ block_place position }
+{
     match position {
         Position::First => match kind {
             Kind::Import => Position::First,
@@ -37,7 +55,9 @@ pub(crate) fn declaration(
     notes: &mut Notes,
     depth: u32,
     position: Position,
-) -> Result<Found, Stop> {
+) -> Result<Found, Stop>
+    ensures { IfOk result (λ found. ReadsFound (decl_place position) found cursor.old cursor.new) }
+{
     match position {
         Position::First => first(alloc, cursor, notes),
         Position::Top => top(alloc, cursor, notes, depth),
@@ -46,7 +66,9 @@ pub(crate) fn declaration(
 }
 
 /// An import, which alone stands before the other parts.
-fn first(alloc: Global, cursor: &mut Cursor, notes: &mut Notes) -> Result<Found, Stop> {
+fn first(alloc: Global, cursor: &mut Cursor, notes: &mut Notes) -> Result<Found, Stop>
+    ensures { IfOk result (λ found. ReadsFound DeclPlace.First found cursor.old cursor.new) }
+{
     match kind_ahead(cursor) {
         Kind::Import => {
             let stated = import(alloc, cursor, notes)?;
@@ -57,7 +79,9 @@ fn first(alloc: Global, cursor: &mut Cursor, notes: &mut Notes) -> Result<Found,
 }
 
 /// A declaration in a module's body.
-fn top(alloc: Global, cursor: &mut Cursor, notes: &mut Notes, depth: u32) -> Result<Found, Stop> {
+fn top(alloc: Global, cursor: &mut Cursor, notes: &mut Notes, depth: u32) -> Result<Found, Stop>
+    ensures { IfOk result (λ found. ReadsFound DeclPlace.Top found cursor.old cursor.new) }
+{
     match kind_ahead(cursor) {
         Kind::Type | Kind::Data | Kind::Newtype => {
             nest(depth, 1)?;
@@ -69,7 +93,9 @@ fn top(alloc: Global, cursor: &mut Cursor, notes: &mut Notes, depth: u32) -> Res
 }
 
 /// A declaration of any block.
-fn local(alloc: Global, cursor: &mut Cursor, notes: &mut Notes, depth: u32) -> Result<Found, Stop> {
+fn local(alloc: Global, cursor: &mut Cursor, notes: &mut Notes, depth: u32) -> Result<Found, Stop>
+    ensures { IfOk result (λ found. (place : DeclPlace) → takes_local place ≡ true → ReadsFound place found cursor.old cursor.new) }
+{
     let kind = kind_ahead(cursor);
     if !begins_declaration(kind) {
         return Err(Stop::Syntax);
@@ -87,6 +113,7 @@ fn local(alloc: Global, cursor: &mut Cursor, notes: &mut Notes, depth: u32) -> R
 /// A signature, or what stands before a right side. The nesting of the declaration is `depth`.
 fn valued(alloc: Global, cursor: &mut Cursor, notes: &mut Notes, depth: u32) -> Result<Found, Stop>
     requires { depth ≤ 256 }
+    ensures { IfOk result (λ found. (place : DeclPlace) → takes_local place ≡ true → ReadsFound place found cursor.old cursor.new) }
 {
     match beginning(alloc, cursor, notes, depth)? {
         Front::Variable(bound) => behind_variable(alloc, cursor, depth, Held::new(bound)),
@@ -103,6 +130,7 @@ fn behind_variable(
     bound: Held<Variable>,
 ) -> Result<Found, Stop>
     requires { depth ≤ 256 }
+    ensures { IfOk result (λ found. (place : DeclPlace) (before : Standing) → takes_local place ≡ true → Spells IsVariable variable_items bound before cursor.old → ReadsFound place found before cursor.new) }
 {
     match kind_ahead(cursor) {
         Kind::Comma | Kind::DoubleColon => {
@@ -119,7 +147,9 @@ fn behind_variable(
 }
 
 /// The declaration with its right side.
-pub(crate) fn stated_by(alloc: Global, left: Left, side: Side) -> Result<Stated<Decl>, Stop> {
+pub(crate) fn stated_by(alloc: Global, left: Left, side: Side) -> Result<Stated<Decl>, Stop>
+    ensures { IfOk result (λ stated. (place : DeclPlace) (before middle after : Standing) → takes_local place ≡ true → ReadsLeft left before middle → ReadsSide Mark.Equals side middle after → ReadsDecl place stated before after) }
+{
     match left {
         Left::Pattern(part) => {
             let stated = bodies::binding(alloc, part, side)?;

@@ -1,6 +1,14 @@
 //! Right sides: the Haskell 98 Report, sections 4.4.3 and 3.13.
-ghost use Rattle.std.specs.Prelude.{◌≡◌};
+ghost use Rattle.std.specs.Prelude.{IfOk, ◌≡◌};
+ghost use Rattle.hr_layout.specs.Standing.{Standing};
+ghost use Rattle.hr_grammar.specs.Nodes.{DeclPlace};
 ghost use Rattle.hr_grammar.specs.Spans.{part_ending};
+ghost use Rattle.hr_parse_lexeme.specs.declared.mark.Mark.{Mark};
+ghost use Rattle.hr_parse_lexeme.specs.Marks.{IsMark};
+ghost use Rattle.hr_parse_lexeme.specs.Reads.{Takes};
+ghost use Rattle.hr_parse_parts.specs.declared.place.Annotations.{Annotations};
+ghost use Rattle.hr_parse_parts.specs.Steps.{ReadsValue, Steps, WaitsSiding, Wanted};
+ghost use Rattle.hr_parse_parts.specs.Waits.{ReadsBody, WaitsGuard, WaitsGuarded, WaitsWhere};
 
 use hr_base::{Ending, Item};
 use hr_layout::Cursor;
@@ -16,12 +24,9 @@ use std::alloc::Global;
 
 /// What stands behind a left side or a pattern: `=` or `->` as the mark, or guards; then `where`, which belongs to the
 /// innermost part that can have it. The nesting of that part is `depth`.
-pub fn right_side(
-    alloc: Global,
-    cursor: &mut Cursor,
-    depth: u32,
-    mark: Mark,
-) -> Result<Step, Stop> {
+pub fn right_side(alloc: Global, cursor: &mut Cursor, depth: u32, mark: Mark) -> Result<Step, Stop>
+    ensures { IfOk result (λ step. Steps (Wanted.Side mark) step cursor.old cursor.new) }
+{
     match accept(cursor, Mark::Bar) {
         Some(bar) => {
             let guards = Guards {
@@ -43,7 +48,9 @@ pub fn right_side(
 }
 
 /// A guard is read. It is a sequence without `::`, so behind it the mark stands.
-fn guard(guards: Guards, bar: Item) -> Step {
+fn guard(guards: Guards, bar: Item) -> Step
+    ensures { (before after : Standing) → WaitsGuard guards bar before after → Steps (Wanted.Side guards.mark) result before after }
+{
     let place = Place::guard(guards.depth);
     wait(
         Frame::Side(Held::new(Siding::Guard(guards, bar))),
@@ -52,11 +59,9 @@ fn guard(guards: Guards, bar: Item) -> Step {
 }
 
 /// Goes on behind a part of a right side.
-pub fn behind_siding(
-    cursor: &mut Cursor,
-    siding: Siding,
-    value: Held<Value>,
-) -> Result<Step, Stop> {
+pub fn behind_siding(cursor: &mut Cursor, siding: Siding, value: Held<Value>) -> Result<Step, Stop>
+    ensures { IfOk result (λ step. (mark : Mark) (needs : Wanted) (before middle : Standing) → WaitsSiding siding mark needs before middle → ReadsValue needs value middle cursor.old → Steps (Wanted.Side mark) step before cursor.new) }
+{
     match siding {
         Siding::Plain(depth, mark) => behind_plain(cursor, depth, mark, value),
         Siding::Guard(guards, bar) => behind_guard(cursor, guards, bar, value),
@@ -70,7 +75,9 @@ fn behind_plain(
     depth: u32,
     item: Item,
     value: Held<Value>,
-) -> Result<Step, Stop> {
+) -> Result<Step, Stop>
+    ensures { IfOk result (λ step. (mark : Mark) (before middle : Standing) → Takes (IsMark mark) item before middle → ReadsValue (Wanted.Sequence Annotations.Allowed) value middle cursor.old → Steps (Wanted.Side mark) step before cursor.new) }
+{
     let read = expression(value)?;
     let ending = part_ending(false, read.ending);
     let body = part(read)?;
@@ -83,7 +90,9 @@ fn behind_guard(
     guards: Guards,
     bar: Item,
     value: Held<Value>,
-) -> Result<Step, Stop> {
+) -> Result<Step, Stop>
+    ensures { IfOk result (λ step. (before middle : Standing) → WaitsGuard guards bar before middle → ReadsValue (Wanted.Sequence Annotations.Barred) value middle cursor.old → Steps (Wanted.Side guards.mark) step before cursor.new) }
+{
     let read = expression(value)?;
     let guard = part(read)?;
     let mark = expect(cursor, guards.mark)?;
@@ -101,7 +110,9 @@ fn behind_guarded(
     guards: Guards,
     guarded: GuardedBy,
     value: Held<Value>,
-) -> Result<Step, Stop> {
+) -> Result<Step, Stop>
+    ensures { IfOk result (λ step. (before middle : Standing) → WaitsGuarded guards guarded before middle → ReadsValue (Wanted.Sequence Annotations.Allowed) value middle cursor.old → Steps (Wanted.Side guards.mark) step before cursor.new) }
+{
     let read = expression(value)?;
     let ending = part_ending(true, read.ending);
     let body = part(read)?;
@@ -117,7 +128,9 @@ fn behind_guarded(
 }
 
 /// Behind a body `where` may follow.
-fn behind_body(cursor: &mut Cursor, depth: u32, whole: Whole, ending: Ending) -> Step {
+fn behind_body(cursor: &mut Cursor, depth: u32, whole: Whole, ending: Ending) -> Step
+    ensures { (mark : Mark) (before : Standing) → ReadsBody mark whole ending before cursor.old → Steps (Wanted.Side mark) result before cursor.new }
+{
     match accept_before_block(cursor, Mark::Where) {
         Some(word) => wait(
             Frame::Side(Held::new(Siding::Where(whole, word))),
@@ -127,7 +140,9 @@ fn behind_body(cursor: &mut Cursor, depth: u32, whole: Whole, ending: Ending) ->
     }
 }
 
-fn behind_where(whole: Whole, word: Item, value: Held<Value>) -> Result<Step, Stop> {
+fn behind_where(whole: Whole, word: Item, value: Held<Value>) -> Result<Step, Stop>
+    ensures { IfOk result (λ step. (mark : Mark) (before middle after : Standing) → WaitsWhere mark whole word before middle → ReadsValue (Wanted.Declarations DeclPlace.Local) value middle after → Steps (Wanted.Side mark) step before after) }
+{
     let block = declarations_of(value)?;
     let side = bodies::side_where(whole, word, block);
     Ok(done_side(side))

@@ -1,6 +1,16 @@
 //! Expressions in parentheses: groups, tuples and sections, the Haskell 98 Report, sections 3.5, 3.8 and 3.9.
-ghost use Rattle.std.specs.Prelude.{◌≡◌, false};
-ghost use Rattle.hr_parse_brackets.specs.Operators.{IsQuoted};
+ghost use Rattle.std.specs.Prelude.{IfOk, false, length, ◌<◌, ◌≡◌};
+ghost use Rattle.hr_layout.specs.Standing.{Standing};
+ghost use Rattle.hr_tree.specs.Names.{operator_items};
+ghost use Rattle.hr_grammar.specs.Words.{IsLeftParen, IsMinus, IsRightParen};
+ghost use Rattle.hr_grammar.specs.Spelled.{IsNoMinus, IsOperator};
+ghost use Rattle.hr_grammar.specs.Nodes.{PatPlace};
+ghost use Rattle.hr_parse_lexeme.specs.Reads.{Accepts, Spells, Takes};
+ghost use Rattle.hr_parse_pattern.specs.Patterns.{ReadsPat};
+ghost use Rattle.hr_parse_parts.specs.declared.place.Annotations.{Annotations};
+ghost use Rattle.hr_parse_parts.specs.Parts.{ReadsSequence};
+ghost use Rattle.hr_parse_parts.specs.Steps.{ReadsValue, Steps, WaitsBracket, Wanted};
+ghost use Rattle.hr_parse_parts.specs.Waits.{WaitsPart, WaitsSection};
 
 use crate::lists::{Sequenced, behind_first, behind_last, behind_part, behind_second};
 use crate::names::{Parenthesized, constructor, symbol, whole};
@@ -31,7 +41,9 @@ pub fn parenthesized(
     notes: &mut Notes,
     depth: u32,
     may_bind: bool,
-) -> Result<Step, Stop> {
+) -> Result<Step, Stop>
+    ensures { IfOk result (λ step. Steps Wanted.Atom step cursor.old cursor.new) }
+{
     match parenthesis(alloc, cursor)? {
         Opening::Constructor(named) => {
             constructor(alloc, cursor, notes, Held::new(named), may_bind)
@@ -47,7 +59,9 @@ fn opened(
     depth: u32,
     left: Item,
     may_bind: bool,
-) -> Result<Step, Stop> {
+) -> Result<Step, Stop>
+    ensures { IfOk result (λ step. (before : Standing) → Takes IsLeftParen left before cursor.old → Steps Wanted.Atom step before cursor.new) }
+{
     let kind = kind_ahead(cursor);
     match kind {
         Kind::Backquote => {
@@ -70,7 +84,9 @@ fn behind_minus(
     depth: u32,
     left: Item,
     may_bind: bool,
-) -> Result<Step, Stop> {
+) -> Result<Step, Stop>
+    ensures { IfOk result (λ step. (before : Standing) → Takes IsLeftParen left before cursor.old → Steps Wanted.Atom step before cursor.new) }
+{
     let minus = expect(cursor, Mark::Minus)?;
     match accept(cursor, Mark::RightParen) {
         None => Ok(first(alloc, depth, left, Some(minus), may_bind)),
@@ -95,7 +111,9 @@ fn behind_symbol(
     left: Item,
     kind: Kind,
     may_bind: bool,
-) -> Result<Step, Stop> {
+) -> Result<Step, Stop>
+    ensures { IfOk result (λ step. (before : Standing) → Takes IsLeftParen left before cursor.old → Steps Wanted.Atom step before cursor.new) }
+{
     let operator = expect_kind(cursor, kind)?;
     match accept(cursor, Mark::RightParen) {
         None => section(left, Held::new(Operator::Symbol(operator)), depth),
@@ -112,7 +130,9 @@ fn behind_symbol(
 }
 
 /// The first part in parentheses is read, behind a minus that was taken.
-fn first(alloc: Global, depth: u32, left: Item, minus: Option<Item>, may_bind: bool) -> Step {
+fn first(alloc: Global, depth: u32, left: Item, minus: Option<Item>, may_bind: bool) -> Step
+    ensures { (before middle after : Standing) → Takes IsLeftParen left before middle → Accepts IsMinus minus middle after → Steps Wanted.Atom result before after }
+{
     let parenthesis = Parenthesis {
         depth,
         left,
@@ -127,7 +147,9 @@ fn first(alloc: Global, depth: u32, left: Item, minus: Option<Item>, may_bind: b
 }
 
 /// The operand of a right section is read. The minus has none.
-fn section(left: Item, operator: Held<Operator>, depth: u32) -> Result<Step, Stop> {
+fn section(left: Item, operator: Held<Operator>, depth: u32) -> Result<Step, Stop>
+    ensures { IfOk result (λ step. (before middle after : Standing) → Takes IsLeftParen left before middle → Spells IsOperator operator_items operator middle after → Steps Wanted.Atom step before after) }
+{
     if is_minus(operator.get()) {
         return Err(Stop::Syntax);
     }
@@ -138,7 +160,7 @@ fn section(left: Item, operator: Held<Operator>, depth: u32) -> Result<Step, Sto
 }
 
 fn is_minus(operator: &Operator) -> bool
-    ensures { IsQuoted operator.now → result ≡ false }
+    ensures { result ≡ false → IsNoMinus operator.now }
 {
     match operator {
         Operator::Symbol(symbol) => Mark::Minus.is(&symbol.lexeme),
@@ -153,7 +175,9 @@ pub fn squared(
     notes: &mut Notes,
     depth: u32,
     may_bind: bool,
-) -> Result<Step, Stop> {
+) -> Result<Step, Stop>
+    ensures { IfOk result (λ step. Steps Wanted.Atom step cursor.old cursor.new) }
+{
     match square(cursor)? {
         Opening::Constructor(named) => {
             constructor(alloc, cursor, notes, Held::new(named), may_bind)
@@ -175,7 +199,9 @@ pub fn behind_bracketed(
     notes: &mut Notes,
     bracket: Bracket,
     value: Held<Value>,
-) -> Result<Step, Stop> {
+) -> Result<Step, Stop>
+    ensures { IfOk result (λ step. (needs : Wanted) (before middle : Standing) → WaitsBracket bracket needs before middle → ReadsValue needs value middle cursor.old → Steps Wanted.Atom step before cursor.new) }
+{
     match bracket {
         Bracket::Parenthesis(begun) => behind_parenthesized(alloc, cursor, notes, begun, value),
         Bracket::Section(left, operator) => {
@@ -207,7 +233,9 @@ fn behind_section(
     left: Item,
     operator: Held<Operator>,
     value: Held<Value>,
-) -> Result<Step, Stop> {
+) -> Result<Step, Stop>
+    ensures { IfOk result (λ step. (before middle : Standing) → WaitsSection left operator before middle → ReadsValue (Wanted.Sequence Annotations.Inner) value middle cursor.old → Steps Wanted.Atom step before cursor.new) }
+{
     let read = expression(value)?;
     let operand = part(read)?;
     let right = expect(cursor, Mark::RightParen)?;
@@ -222,7 +250,9 @@ fn behind_parenthesized(
     notes: &mut Notes,
     begun: Parenthesis,
     value: Held<Value>,
-) -> Result<Step, Stop> {
+) -> Result<Step, Stop>
+    ensures { IfOk result (λ step. (before middle : Standing) → WaitsPart begun before middle → ReadsValue (Wanted.Sequence Annotations.Allowed) value middle cursor.old → Steps Wanted.Atom step before cursor.new) }
+{
     match mixed_of(value)? {
         Mixed::Expression(read) => {
             if begun.parts.len() == 0 {
@@ -243,7 +273,10 @@ fn behind_only(
     notes: &mut Notes,
     begun: Parenthesis,
     read: Read,
-) -> Result<Step, Stop> {
+) -> Result<Step, Stop>
+    requires { length begun.parts.list ≡ 0 }
+    ensures { IfOk result (λ step. (before middle : Standing) → WaitsPart begun before middle → ReadsSequence Annotations.Allowed read middle cursor.old → Steps Wanted.Atom step before cursor.new) }
+{
     let read = with_operator(cursor, read)?;
     if read.operator.is_some() {
         return left_section(alloc, cursor, notes, begun.left, read);
@@ -255,7 +288,9 @@ fn behind_only(
 }
 
 /// The expression with the operator behind it.
-fn with_operator(cursor: &mut Cursor, read: Read) -> Result<Read, Stop> {
+fn with_operator(cursor: &mut Cursor, read: Read) -> Result<Read, Stop>
+    ensures { IfOk result (λ found. (before : Standing) → ReadsSequence Annotations.Allowed read before cursor.old → ReadsSequence Annotations.Allowed found before cursor.new) }
+{
     let is_open = read.next == Next::Section && read.operator.is_none();
     if is_open && begins_operator(kind_ahead(cursor)) {
         let Read {
@@ -289,7 +324,9 @@ fn left_section(
     notes: &mut Notes,
     left: Item,
     read: Read,
-) -> Result<Step, Stop> {
+) -> Result<Step, Stop>
+    ensures { IfOk result (λ step. (before middle : Standing) → Takes IsLeftParen left before middle → ReadsSequence Annotations.Allowed read middle cursor.old → Steps Wanted.Atom step before cursor.new) }
+{
     let Read {
         tree,
         height,
@@ -313,7 +350,9 @@ fn group(
     left: Item,
     read: Read,
     right: Item,
-) -> Result<Step, Stop> {
+) -> Result<Step, Stop>
+    ensures { IfOk result (λ step. (before inner outer after : Standing) → Takes IsLeftParen left before inner → ReadsSequence Annotations.Allowed read inner outer → Takes IsRightParen right outer after → Steps Wanted.Atom step before after) }
+{
     let Inside { part, twin } = alone(read)?;
     let twin = group_of(alloc, &left, twin, &right)?;
     let exp = nodes::group(alloc, left, part, right)?;
@@ -327,7 +366,10 @@ fn behind_comma(
     notes: &mut Notes,
     begun: Parenthesis,
     read: Read,
-) -> Result<Step, Stop> {
+) -> Result<Step, Stop>
+    requires { 0 < length begun.parts.list }
+    ensures { IfOk result (λ step. (before middle : Standing) → WaitsPart begun before middle → ReadsSequence Annotations.Allowed read middle cursor.old → Steps Wanted.Atom step before cursor.new) }
+{
     if kind_ahead(cursor) == Kind::Comma && begun.parts.len() < MOST_COMMAS {
         return next(alloc, cursor, begun, read);
     }
@@ -346,7 +388,9 @@ fn behind_comma(
 }
 
 /// A comma, and the next part of a tuple.
-fn next(alloc: Global, cursor: &mut Cursor, begun: Parenthesis, read: Read) -> Result<Step, Stop> {
+fn next(alloc: Global, cursor: &mut Cursor, begun: Parenthesis, read: Read) -> Result<Step, Stop>
+    ensures { IfOk result (λ step. (before middle : Standing) → WaitsPart begun before middle → ReadsSequence Annotations.Allowed read middle cursor.old → Steps Wanted.Atom step before cursor.new) }
+{
     let Parenthesis {
         depth,
         left,
@@ -380,7 +424,9 @@ fn patterns(
     notes: &mut Notes,
     begun: Parenthesis,
     part: Part<Pat>,
-) -> Result<Step, Stop> {
+) -> Result<Step, Stop>
+    ensures { IfOk result (λ step. (before middle : Standing) → WaitsPart begun before middle → ReadsPat PatPlace.Whole part middle cursor.old → Steps Wanted.Atom step before cursor.new) }
+{
     let Parenthesis {
         depth,
         left,

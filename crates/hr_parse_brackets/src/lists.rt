@@ -1,4 +1,15 @@
 //! Lists, arithmetic sequences and comprehensions: the Haskell 98 Report, sections 3.7, 3.10 and 3.11.
+ghost use Rattle.std.specs.Prelude.{IfOk};
+ghost use Rattle.hr_layout.specs.Standing.{Standing};
+ghost use Rattle.hr_grammar.specs.Words.{IsLeftSquare};
+ghost use Rattle.hr_grammar.specs.Nodes.{PatPlace};
+ghost use Rattle.hr_parse_lexeme.specs.Reads.{Takes};
+ghost use Rattle.hr_parse_pattern.specs.Patterns.{ReadsPat};
+ghost use Rattle.hr_parse_parts.specs.declared.place.Annotations.{Annotations};
+ghost use Rattle.hr_parse_parts.specs.Lists.{MayParts, ReadsExps};
+ghost use Rattle.hr_parse_parts.specs.Parts.{ReadsSequence};
+ghost use Rattle.hr_parse_parts.specs.Steps.{ReadsValue, Steps, Wanted};
+ghost use Rattle.hr_parse_parts.specs.Waits.{BeforeDots, WaitsLast, WaitsParts, WaitsTwin};
 
 use crate::names::whole;
 use crate::qualifiers::before_qualifiers;
@@ -29,7 +40,9 @@ pub(crate) fn behind_first(
     notes: &mut Notes,
     list: Sequenced,
     value: Held<Value>,
-) -> Result<Step, Stop> {
+) -> Result<Step, Stop>
+    ensures { IfOk result (λ step. (before middle : Standing) → Takes IsLeftSquare list.left before middle → ReadsValue (Wanted.Sequence Annotations.Allowed) value middle cursor.old → Steps Wanted.Atom step before cursor.new) }
+{
     match mixed_of(value)? {
         Mixed::Expression(read) => behind_expression(alloc, cursor, notes, list, read.take()),
         Mixed::Pattern(part) => {
@@ -45,7 +58,9 @@ fn behind_expression(
     notes: &mut Notes,
     list: Sequenced,
     read: Read,
-) -> Result<Step, Stop> {
+) -> Result<Step, Stop>
+    ensures { IfOk result (λ step. (before middle : Standing) → Takes IsLeftSquare list.left before middle → ReadsSequence Annotations.Allowed read middle cursor.old → Steps Wanted.Atom step before cursor.new) }
+{
     match kind_ahead(cursor) {
         Kind::Bar => {
             let first = part(read)?;
@@ -72,7 +87,9 @@ fn behind_expression(
     }
 }
 
-fn before_second(cursor: &mut Cursor, depth: u32, left: Item, read: Read) -> Result<Step, Stop> {
+fn before_second(cursor: &mut Cursor, depth: u32, left: Item, read: Read) -> Result<Step, Stop>
+    ensures { IfOk result (λ step. (before middle : Standing) → Takes IsLeftSquare left before middle → ReadsSequence Annotations.Allowed read middle cursor.old → Steps Wanted.Atom step before cursor.new) }
+{
     let comma = expect(cursor, Mark::Comma)?;
     let Inside { part, twin } = alone(read)?;
     let place = Place::whole(below(depth)).binding(twin.is_some());
@@ -96,7 +113,9 @@ pub(crate) fn behind_second(
     notes: &mut Notes,
     second: Second,
     value: Held<Value>,
-) -> Result<Step, Stop> {
+) -> Result<Step, Stop>
+    ensures { IfOk result (λ step. (before middle : Standing) → WaitsTwin second before middle → ReadsValue (Wanted.Sequence Annotations.Allowed) value middle cursor.old → Steps Wanted.Atom step before cursor.new) }
+{
     if kind_ahead(cursor) == Kind::Dots {
         return before_dots(alloc, cursor, notes, second, value);
     }
@@ -111,7 +130,9 @@ fn before_dots(
     notes: &mut Notes,
     second: Second,
     value: Held<Value>,
-) -> Result<Step, Stop> {
+) -> Result<Step, Stop>
+    ensures { IfOk result (λ step. (before middle : Standing) → WaitsTwin second before middle → ReadsValue (Wanted.Sequence Annotations.Allowed) value middle cursor.old → Steps Wanted.Atom step before cursor.new) }
+{
     let Second {
         depth,
         left,
@@ -126,7 +147,9 @@ fn before_dots(
 }
 
 /// The first part of a list with its comma is one of several.
-fn two_parts(alloc: Global, second: Second) -> Result<ListParts, Stop> {
+fn two_parts(alloc: Global, second: Second) -> Result<ListParts, Stop>
+    ensures { IfOk result (λ parts. (before after : Standing) → WaitsTwin second before after → WaitsParts parts before after) }
+{
     let Second {
         depth,
         left,
@@ -153,7 +176,9 @@ pub(crate) fn behind_part(
     notes: &mut Notes,
     parts: ListParts,
     value: Held<Value>,
-) -> Result<Step, Stop> {
+) -> Result<Step, Stop>
+    ensures { IfOk result (λ step. (before middle : Standing) → WaitsParts parts before middle → ReadsValue (Wanted.Sequence Annotations.Allowed) value middle cursor.old → Steps Wanted.Atom step before cursor.new) }
+{
     let ListParts {
         depth,
         left,
@@ -181,7 +206,9 @@ fn next(
     before: Parts<Exp>,
     twins: Option<Parts<Pat>>,
     read: Read,
-) -> Result<Step, Stop> {
+) -> Result<Step, Stop>
+    ensures { IfOk result (λ step. (begin inner outer : Standing) → Takes IsLeftSquare left begin inner → ReadsExps before inner outer → MayParts twins inner outer → ReadsSequence Annotations.Allowed read outer cursor.old → Steps Wanted.Atom step begin cursor.new) }
+{
     let mut parts = before;
     let comma = expect(cursor, Mark::Comma)?;
     let Inside { part, twin } = alone(read)?;
@@ -209,7 +236,9 @@ fn closed(
     before: Parts<Exp>,
     twins: Option<Parts<Pat>>,
     last: Read,
-) -> Result<Step, Stop> {
+) -> Result<Step, Stop>
+    ensures { IfOk result (λ step. (begin inner outer : Standing) → Takes IsLeftSquare left begin inner → ReadsExps before inner outer → MayParts twins inner outer → ReadsSequence Annotations.Allowed last outer cursor.old → Steps Wanted.Atom step begin cursor.new) }
+{
     let mut parts = before;
     let right = expect(cursor, Mark::RightSquare)?;
     let Inside { part, twin } = alone(last)?;
@@ -228,7 +257,9 @@ fn patterns(
     left: Item,
     before: Option<Parts<Pat>>,
     part: Part<Pat>,
-) -> Result<Step, Stop> {
+) -> Result<Step, Stop>
+    ensures { IfOk result (λ step. (begin inner outer : Standing) → Takes IsLeftSquare left begin inner → MayParts before inner outer → ReadsPat PatPlace.Whole part outer cursor.old → Steps Wanted.Atom step begin cursor.new) }
+{
     let before = refused(before)?;
     let part = closed_list(alloc, cursor, notes, below(depth), left, before, part)?;
     notes.pattern(cursor.pos());
@@ -242,7 +273,9 @@ fn behind_dots(
     notes: &mut Notes,
     depth: u32,
     dots: Dots,
-) -> Result<Step, Stop> {
+) -> Result<Step, Stop>
+    ensures { IfOk result (λ step. (before : Standing) → BeforeDots dots before cursor.old → Steps Wanted.Atom step before cursor.new) }
+{
     let mark = expect(cursor, Mark::Dots)?;
     match accept(cursor, Mark::RightSquare) {
         None => Ok(wait(
@@ -264,7 +297,9 @@ pub(crate) fn behind_last(
     dots: Dots,
     mark: Item,
     value: Held<Value>,
-) -> Result<Step, Stop> {
+) -> Result<Step, Stop>
+    ensures { IfOk result (λ step. (before middle : Standing) → WaitsLast dots mark before middle → ReadsValue (Wanted.Sequence Annotations.Allowed) value middle cursor.old → Steps Wanted.Atom step before cursor.new) }
+{
     let read = expression(value)?;
     let last = part(read)?;
     let right = expect(cursor, Mark::RightSquare)?;

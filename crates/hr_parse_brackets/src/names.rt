@@ -1,4 +1,14 @@
 //! Names and operators in parentheses as atoms: the Haskell 98 Report, section 3.2.
+ghost use Rattle.std.specs.Prelude.{IfOk, false, true};
+ghost use Rattle.hr_base.specs.declared.lexeme.Ending.{Ending};
+ghost use Rattle.hr_layout.specs.Standing.{Standing};
+ghost use Rattle.hr_tree.specs.Names.{constructor_items, variable_items};
+ghost use Rattle.hr_grammar.specs.Spelled.{IsConstructor, IsNamedVariable, IsVariable};
+ghost use Rattle.hr_grammar.specs.Nodes.{Colons, ExpPlace, PatPlace};
+ghost use Rattle.hr_parse_lexeme.specs.Reads.{Spells};
+ghost use Rattle.hr_parse_brackets.specs.Atoms.{IsParenthesized};
+ghost use Rattle.hr_parse_parts.specs.Parts.{EndsExp, MayTwin};
+ghost use Rattle.hr_parse_parts.specs.Steps.{Steps, Wanted};
 
 use hr_base::Item;
 use hr_layout::Cursor;
@@ -19,7 +29,9 @@ pub fn variable(
     depth: u32,
     name: Held<Variable>,
     may_bind: bool,
-) -> Result<Step, Stop> {
+) -> Result<Step, Stop>
+    ensures { IfOk result (λ step. (before : Standing) → Spells IsVariable variable_items name before cursor.old → Steps Wanted.Atom step before cursor.new) }
+{
     if may_bind && is_next(cursor, Mark::At) {
         let part = bound_at(alloc, cursor, notes, depth, name.take())?;
         notes.pattern(cursor.pos());
@@ -31,12 +43,9 @@ pub fn variable(
 }
 
 /// A variable of an expression alone.
-pub fn used(
-    alloc: Global,
-    cursor: &Cursor,
-    notes: &mut Notes,
-    name: Variable,
-) -> Result<Step, Stop> {
+pub fn used(alloc: Global, cursor: &Cursor, notes: &mut Notes, name: Variable) -> Result<Step, Stop>
+    ensures { IfOk result (λ step. (before : Standing) → Spells IsNamedVariable variable_items name before cursor.now → Steps Wanted.Atom step before cursor.now) }
+{
     let exp = node(alloc, Exp::Variable(name), 0)?;
     Ok(whole(cursor, notes, exp, None))
 }
@@ -47,7 +56,9 @@ pub fn constructor(
     notes: &mut Notes,
     named: Held<Constructor>,
     may_bind: bool,
-) -> Result<Step, Stop> {
+) -> Result<Step, Stop>
+    ensures { IfOk result (λ step. (before : Standing) → Spells IsConstructor constructor_items named before cursor.now → Steps Wanted.Atom step before cursor.now) }
+{
     let twin = named_twin(named.get(), may_bind)?;
     let exp = node(alloc, Exp::Constructor(named.take()), 0)?;
     Ok(whole(cursor, notes, exp, twin))
@@ -70,7 +81,9 @@ pub(crate) fn symbol(
     depth: u32,
     name: Parenthesized,
     may_bind: bool,
-) -> Result<Step, Stop> {
+) -> Result<Step, Stop>
+    ensures { IfOk result (λ step. (before : Standing) → IsParenthesized name before cursor.old → Steps Wanted.Atom step before cursor.new) }
+{
     let Parenthesized {
         left,
         symbol,
@@ -97,12 +110,9 @@ pub(crate) fn symbol(
 }
 
 /// An atom that is whole, and a pattern where one may stand.
-pub fn whole(
-    cursor: &Cursor,
-    notes: &mut Notes,
-    part: Part<Exp>,
-    twin: Option<Held<Twin>>,
-) -> Step {
+pub fn whole(cursor: &Cursor, notes: &mut Notes, part: Part<Exp>, twin: Option<Held<Twin>>) -> Step
+    ensures { (before after : Standing) → ((free : Colons) → EndsExp free ExpPlace.Atom part.height part.tree (Ending.Applied true false) before after) → MayTwin PatPlace.Atomic twin before after → Steps Wanted.Atom result before after }
+{
     if twin.is_some() {
         notes.pattern(cursor.pos());
     } else {

@@ -1,4 +1,15 @@
 //! The qualifiers of a comprehension: the Haskell 98 Report, section 3.11.
+ghost use Rattle.std.specs.Prelude.{IfOk};
+ghost use Rattle.hr_layout.specs.Standing.{Standing};
+ghost use Rattle.hr_grammar.specs.Words.{IsLeftSquare};
+ghost use Rattle.hr_grammar.specs.Nodes.{Colons, DeclPlace, ExpPlace, PatPlace};
+ghost use Rattle.hr_grammar_cases.specs.Expressions.{qualifier_over};
+ghost use Rattle.hr_parse_lexeme.specs.Reads.{Consumes, Takes};
+ghost use Rattle.hr_parse_pattern.specs.Patterns.{ReadsPat};
+ghost use Rattle.hr_parse_parts.specs.declared.place.Annotations.{Annotations};
+ghost use Rattle.hr_parse_parts.specs.Parts.{ReadsExp, ReadsSequence};
+ghost use Rattle.hr_parse_parts.specs.Steps.{ReadsValue, Steps, Wanted};
+ghost use Rattle.hr_parse_parts.specs.Waits.{WaitsGenerator, WaitsLocals, WaitsQualifier};
 
 use crate::names::whole;
 use hr_base::Item;
@@ -21,7 +32,9 @@ pub(crate) fn before_qualifiers(
     depth: u32,
     left: Item,
     first: Part<Exp>,
-) -> Result<Step, Stop> {
+) -> Result<Step, Stop>
+    ensures { IfOk result (λ step. (before middle : Standing) → Takes IsLeftSquare left before middle → ReadsExp Colons.Allowed ExpPlace.Whole first middle cursor.old → Steps Wanted.Atom step before cursor.new) }
+{
     let bar = expect(cursor, Mark::Bar)?;
     let begun = Comprehension {
         depth,
@@ -35,7 +48,9 @@ pub(crate) fn before_qualifiers(
 
 /// A qualifier begins. What begins with `let` is a block, or an expression where `in` follows; what begins otherwise
 /// is read as an expression and a pattern together, until a lexeme parts them.
-fn qualifier(cursor: &mut Cursor, begun: Comprehension) -> Result<Step, Stop> {
+fn qualifier(cursor: &mut Cursor, begun: Comprehension) -> Result<Step, Stop>
+    ensures { IfOk result (λ step. (before : Standing) → WaitsQualifier begun before cursor.old → Steps Wanted.Atom step before cursor.new) }
+{
     let depth = below(begun.depth);
     if kind_ahead(cursor) == Kind::Let {
         let word = before_block(cursor, Mark::Let)?;
@@ -59,7 +74,9 @@ pub(crate) fn behind_qualifier(
     notes: &mut Notes,
     begun: Comprehension,
     value: Held<Value>,
-) -> Result<Step, Stop> {
+) -> Result<Step, Stop>
+    ensures { IfOk result (λ step. (before middle : Standing) → WaitsQualifier begun before middle → ReadsValue (Wanted.Sequence Annotations.Allowed) value middle cursor.old → Steps Wanted.Atom step before cursor.new) }
+{
     match mixed_of(value)? {
         Mixed::Expression(read) => behind_expression(alloc, cursor, notes, begun, read.take()),
         Mixed::Pattern(pattern) => behind_pattern(cursor, begun, pattern),
@@ -73,7 +90,9 @@ fn behind_expression(
     notes: &mut Notes,
     begun: Comprehension,
     read: Read,
-) -> Result<Step, Stop> {
+) -> Result<Step, Stop>
+    ensures { IfOk result (λ step. (before middle : Standing) → WaitsQualifier begun before middle → ReadsSequence Annotations.Allowed read middle cursor.old → Steps Wanted.Atom step before cursor.new) }
+{
     let Inside { part, twin } = alone(read)?;
     if is_next(cursor, Mark::BackArrow) {
         let twin = refused(twin)?;
@@ -88,7 +107,9 @@ fn behind_pattern(
     cursor: &mut Cursor,
     begun: Comprehension,
     pattern: Part<Pat>,
-) -> Result<Step, Stop> {
+) -> Result<Step, Stop>
+    ensures { IfOk result (λ step. (before middle : Standing) → WaitsQualifier begun before middle → ReadsPat PatPlace.Whole pattern middle cursor.old → Steps Wanted.Atom step before cursor.new) }
+{
     let arrow = expect(cursor, Mark::BackArrow)?;
     let place = Place::whole(below(begun.depth));
     let bracket = Bracket::Generator(begun, Generator { pattern, arrow });
@@ -105,7 +126,9 @@ pub(crate) fn behind_generator(
     begun: Comprehension,
     generator: Generator,
     value: Held<Value>,
-) -> Result<Step, Stop> {
+) -> Result<Step, Stop>
+    ensures { IfOk result (λ step. (before middle : Standing) → WaitsGenerator begun generator.pattern generator.arrow before middle → ReadsValue (Wanted.Sequence Annotations.Allowed) value middle cursor.old → Steps Wanted.Atom step before cursor.new) }
+{
     let read = expression(value)?;
     let exp = part(read)?;
     let Generator { pattern, arrow } = generator;
@@ -121,7 +144,9 @@ pub(crate) fn behind_locals(
     begun: Comprehension,
     locals: Locals,
     value: Held<Value>,
-) -> Result<Step, Stop> {
+) -> Result<Step, Stop>
+    ensures { IfOk result (λ step. (before middle : Standing) → WaitsLocals begun locals.word before middle → ReadsValue (Wanted.Declarations DeclPlace.Local) value middle cursor.old → Steps Wanted.Atom step before cursor.new) }
+{
     let block = declarations_of(value)?;
     let Locals { word } = locals;
     if !is_next(cursor, Mark::In) {
@@ -149,7 +174,9 @@ fn qualified(
     notes: &mut Notes,
     begun: Comprehension,
     last: Part<Qualifier>,
-) -> Result<Step, Stop> {
+) -> Result<Step, Stop>
+    ensures { IfOk result (λ step. (before middle : Standing) → WaitsQualifier begun before middle → Consumes last.height (λ below n. qualifier_over below n last.tree) middle cursor.old → Steps Wanted.Atom step before cursor.new) }
+{
     let mut begun = begun;
     match accept(cursor, Mark::Comma) {
         Some(comma) => {

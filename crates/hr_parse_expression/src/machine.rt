@@ -1,6 +1,13 @@
 //! What is read next, and what waits for it. Expressions, declarations and blocks stand in one another, so none of
 //! their readers calls another one: each takes lexemes up to the next part of its own and says what that is, and what
 //! waits for the part stands on a stack. So a text may nest as deep as it likes, and each reader is proved alone.
+ghost use Rattle.std.specs.Prelude.{IfOk};
+ghost use Rattle.hr_layout.specs.Standing.{Standing};
+ghost use Rattle.hr_parse_lexeme.specs.Reads.{Consumes};
+ghost use Rattle.hr_parse_expression.specs.Runs.{Runs, Turns};
+ghost use Rattle.hr_parse_parts.specs.Parts.{block_of};
+ghost use Rattle.hr_parse_parts.specs.Places.{opening_place};
+ghost use Rattle.hr_parse_parts.specs.Steps.{Begun, IsOpening, ReadsValue, Steps, Waits, Wanted, wanted};
 
 use crate::stack::Stack;
 use hr_base::Pos;
@@ -29,7 +36,10 @@ const STEPS: u64 = u64::MAX;
 const NOWHERE: Pos = Pos { line: 0, col: 0 };
 
 /// Reads what the goal says, behind which nothing stands.
-fn read(alloc: Global, cursor: &mut Cursor, notes: &mut Notes, goal: Goal) -> Result<Value, Stop> {
+fn read(alloc: Global, cursor: &mut Cursor, notes: &mut Notes, goal: Goal) -> Result<Value, Stop>
+    ensures reads { IfOk result (λ value. (before : Standing) → Begun goal before cursor.old → ReadsValue (wanted goal) value before cursor.new) }
+    ensures ends { IfOk result (λ value. cursor.new.rest ≡ []) }
+{
     let mut stack = Stack::new(alloc);
     let mut step = go(goal);
     let mut variable = NOWHERE;
@@ -74,7 +84,9 @@ fn follow(
     notes: &mut Notes,
     stack: &mut Stack,
     step: Step,
-) -> Result<Turn, Stop> {
+) -> Result<Turn, Stop>
+    ensures { IfOk result (λ turn. (last : Wanted) (start : Standing) → Runs last start stack.old step cursor.old → Turns last start turn stack.new cursor.new) }
+{
     match step {
         Step::Read(goal) => {
             let step = begin(alloc, cursor, notes, goal.take())?;
@@ -95,7 +107,9 @@ fn follow(
 }
 
 /// Begins what is read next.
-fn begin(alloc: Global, cursor: &mut Cursor, notes: &mut Notes, goal: Goal) -> Result<Step, Stop> {
+fn begin(alloc: Global, cursor: &mut Cursor, notes: &mut Notes, goal: Goal) -> Result<Step, Stop>
+    ensures { IfOk result (λ step. (before : Standing) → Begun goal before cursor.old → Steps (wanted goal) step before cursor.new) }
+{
     match goal {
         Goal::Sequence(place, minus) => begin_sequence(alloc, cursor, place, minus),
         Goal::Operand(place) => operand(alloc, cursor, notes, place),
@@ -116,7 +130,9 @@ fn behind(
     notes: &mut Notes,
     frame: Frame,
     value: Held<Value>,
-) -> Result<Step, Stop> {
+) -> Result<Step, Stop>
+    ensures { IfOk result (λ step. (makes needs : Wanted) (before middle : Standing) → Waits frame makes needs before middle → ReadsValue needs value middle cursor.old → Steps makes step before cursor.new) }
+{
     match frame {
         Frame::Operand(sequence) => behind_operand(alloc, cursor, notes, sequence, value),
         Frame::Head(depth) => behind_head(alloc, cursor, depth, value),
@@ -145,7 +161,10 @@ pub fn declarations(
     cursor: &mut Cursor,
     notes: &mut Notes,
     depth: u32,
-) -> Result<Blocked<Decl>, Stop> {
+) -> Result<Blocked<Decl>, Stop>
+    ensures reads { IfOk result (λ block. IsOpening true cursor.old → Consumes block.height (λ below n. below.declarations n (opening_place true) (block_of block)) cursor.old cursor.new) }
+    ensures ends { IfOk result (λ block. cursor.new.rest ≡ []) }
+{
     let value = read(alloc, cursor, notes, Goal::Declarations(depth, true))?;
     declarations_of(Held::new(value))
 }

@@ -1,4 +1,12 @@
 //! Operands: the Haskell 98 Report, section 3.3.
+ghost use Rattle.std.specs.Prelude.{IfOk};
+ghost use Rattle.hr_layout.specs.Standing.{Standing};
+ghost use Rattle.hr_grammar.specs.Nodes.{Colons, PatPlace};
+ghost use Rattle.hr_parse_pattern.specs.Patterns.{ReadsPat};
+ghost use Rattle.hr_parse_parts.specs.Parts.{ReadsAtom};
+ghost use Rattle.hr_parse_parts.specs.Places.{colons_of};
+ghost use Rattle.hr_parse_parts.specs.Steps.{ReadsValue, Steps, Wanted};
+ghost use Rattle.hr_parse_parts.specs.Waits.{WaitsArgument};
 
 use crate::forms::{case, conditional, lambda, local};
 use hr_layout::Cursor;
@@ -19,7 +27,9 @@ pub fn operand(
     cursor: &mut Cursor,
     notes: &mut Notes,
     place: Place,
-) -> Result<Step, Stop> {
+) -> Result<Step, Stop>
+    ensures { IfOk result (λ step. Steps (Wanted.Operand (colons_of place.annotations)) step cursor.old cursor.new) }
+{
     match kind_ahead(cursor) {
         Kind::Backslash => lambda(alloc, cursor, notes, place),
         Kind::Let => local(cursor, place),
@@ -39,14 +49,18 @@ pub fn behind_head(
     cursor: &Cursor,
     depth: u32,
     value: Held<Value>,
-) -> Result<Step, Stop> {
+) -> Result<Step, Stop>
+    ensures { IfOk result (λ step. (free : Colons) (before : Standing) → ReadsValue Wanted.Atom value before cursor.now → Steps (Wanted.Operand free) step before cursor.now) }
+{
     match mixed_of(value)? {
         Mixed::Expression(read) => behind_atom(alloc, cursor, depth, read.take()),
         Mixed::Pattern(part) => Ok(done_pattern(part)),
     }
 }
 
-fn behind_atom(alloc: Global, cursor: &Cursor, depth: u32, read: Read) -> Result<Step, Stop> {
+fn behind_atom(alloc: Global, cursor: &Cursor, depth: u32, read: Read) -> Result<Step, Stop>
+    ensures { IfOk result (λ step. (free : Colons) (before : Standing) → ReadsAtom read before cursor.now → Steps (Wanted.Operand free) step before cursor.now) }
+{
     let may_bind = is_named(&read.twin);
     if !begins_argument(cursor, may_bind) {
         return Ok(done_expression(read));
@@ -65,7 +79,9 @@ fn behind_atom(alloc: Global, cursor: &Cursor, depth: u32, read: Read) -> Result
 }
 
 /// The next argument is read.
-fn next_argument(arguments: Arguments) -> Step {
+fn next_argument(arguments: Arguments) -> Step
+    ensures { (free : Colons) (before after : Standing) → WaitsArgument free arguments before after → Steps (Wanted.Operand free) result before after }
+{
     let goal = Goal::Atom(below(arguments.depth), arguments.twins.is_some());
     wait(Frame::Argument(Held::new(arguments)), goal)
 }
@@ -77,7 +93,9 @@ pub fn behind_argument(
     notes: &mut Notes,
     arguments: Arguments,
     value: Held<Value>,
-) -> Result<Step, Stop> {
+) -> Result<Step, Stop>
+    ensures { IfOk result (λ step. (free : Colons) (before middle : Standing) → WaitsArgument free arguments before middle → ReadsValue Wanted.Atom value middle cursor.old → Steps (Wanted.Operand free) step before cursor.new) }
+{
     match mixed_of(value)? {
         Mixed::Expression(read) => one_argument_more(alloc, cursor, arguments, read.take()),
         Mixed::Pattern(part) => patterns(alloc, cursor, notes, arguments, part),
@@ -89,7 +107,9 @@ fn one_argument_more(
     cursor: &Cursor,
     arguments: Arguments,
     read: Read,
-) -> Result<Step, Stop> {
+) -> Result<Step, Stop>
+    ensures { IfOk result (λ step. (free : Colons) (before middle : Standing) → WaitsArgument free arguments before middle → ReadsAtom read middle cursor.now → Steps (Wanted.Operand free) step before cursor.now) }
+{
     let Arguments {
         depth,
         mut atoms,
@@ -118,7 +138,9 @@ fn patterns(
     notes: &mut Notes,
     arguments: Arguments,
     part: Part<Pat>,
-) -> Result<Step, Stop> {
+) -> Result<Step, Stop>
+    ensures { IfOk result (λ step. (free : Colons) (before middle : Standing) → WaitsArgument free arguments before middle → ReadsPat PatPlace.Atomic part middle cursor.old → Steps (Wanted.Operand free) step before cursor.new) }
+{
     let Arguments { depth, twins, .. } = arguments;
     let Applied {
         constructor,

@@ -1,4 +1,6 @@
 //! Atoms: the Haskell 98 Report, section 3.2.
+ghost use Rattle.std.specs.Prelude.{IfOk};
+ghost use Rattle.hr_parse_parts.specs.Steps.{Steps, Wanted};
 
 use hr_layout::Cursor;
 use hr_parse_brackets::{constructor, parenthesized, squared, used, variable, whole};
@@ -18,7 +20,9 @@ pub fn atom(
     notes: &mut Notes,
     depth: u32,
     may_bind: bool,
-) -> Result<Step, Stop> {
+) -> Result<Step, Stop>
+    ensures { IfOk result (λ step. Steps Wanted.Atom step cursor.old cursor.new) }
+{
     let kind = kind_ahead(cursor);
     if may_bind && begins_pattern_alone(kind) {
         let part = atomic(alloc, cursor, notes, depth)?;
@@ -42,7 +46,9 @@ fn number(
     cursor: &mut Cursor,
     notes: &mut Notes,
     may_bind: bool,
-) -> Result<Step, Stop> {
+) -> Result<Step, Stop>
+    ensures { IfOk result (λ step. Steps Wanted.Atom step cursor.old cursor.new) }
+{
     let number = expect_sort(cursor, Sort::Integer)?;
     let twin = number_twin(&number, may_bind)?;
     let exp = node(alloc, Exp::Literal(number), 0)?;
@@ -54,7 +60,9 @@ fn literal(
     cursor: &mut Cursor,
     notes: &mut Notes,
     may_bind: bool,
-) -> Result<Step, Stop> {
+) -> Result<Step, Stop>
+    ensures { IfOk result (λ step. Steps Wanted.Atom step cursor.old cursor.new) }
+{
     let literal = expect_sort(cursor, Sort::Literal)?;
     let twin = literal_twin(alloc, &literal, may_bind)?;
     let exp = node(alloc, Exp::Literal(literal), 0)?;
@@ -68,7 +76,9 @@ fn named(
     notes: &mut Notes,
     depth: u32,
     may_bind: bool,
-) -> Result<Step, Stop> {
+) -> Result<Step, Stop>
+    ensures { IfOk result (λ step. Steps Wanted.Atom step cursor.old cursor.new) }
+{
     match kind_ahead(cursor) {
         Kind::Variable => {
             let name = expect_sort(cursor, Sort::Variable)?;

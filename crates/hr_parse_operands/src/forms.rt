@@ -1,4 +1,14 @@
 //! Lambdas, `let`, `if` and `case`: the Haskell 98 Report, sections 3.3, 3.6, 3.12 and 3.13.
+ghost use Rattle.std.specs.Prelude.{IfOk};
+ghost use lib.Chars.{codes};
+ghost use Rattle.hr_layout.specs.Standing.{Standing};
+ghost use Rattle.hr_grammar.specs.Words.{IsWord};
+ghost use Rattle.hr_grammar.specs.Nodes.{Colons, DeclPlace};
+ghost use Rattle.hr_parse_lexeme.specs.Reads.{Takes};
+ghost use Rattle.hr_parse_parts.specs.declared.place.Annotations.{Annotations};
+ghost use Rattle.hr_parse_parts.specs.Places.{colons_of, inner_of};
+ghost use Rattle.hr_parse_parts.specs.Steps.{ReadsValue, Steps, WaitsForm, Wanted};
+ghost use Rattle.hr_parse_parts.specs.Waits.{WaitsBody, WaitsElse, WaitsIn, WaitsOf, WaitsThen};
 
 use hr_base::Item;
 use hr_layout::Cursor;
@@ -19,7 +29,9 @@ pub(crate) fn lambda(
     cursor: &mut Cursor,
     notes: &mut Notes,
     place: Place,
-) -> Result<Step, Stop> {
+) -> Result<Step, Stop>
+    ensures { IfOk result (λ step. Steps (Wanted.Operand (colons_of place.annotations)) step cursor.old cursor.new) }
+{
     nest(place.depth, 1)?;
     let mark = expect(cursor, Mark::Backslash)?;
     if !begins_atomic(kind_ahead(cursor)) {
@@ -37,7 +49,9 @@ pub(crate) fn lambda(
     ))
 }
 
-pub(crate) fn local(cursor: &mut Cursor, place: Place) -> Result<Step, Stop> {
+pub(crate) fn local(cursor: &mut Cursor, place: Place) -> Result<Step, Stop>
+    ensures { IfOk result (λ step. Steps (Wanted.Operand (colons_of place.annotations)) step cursor.old cursor.new) }
+{
     nest(place.depth, 1)?;
     let word = before_block(cursor, Mark::Let)?;
     Ok(wait(
@@ -46,7 +60,9 @@ pub(crate) fn local(cursor: &mut Cursor, place: Place) -> Result<Step, Stop> {
     ))
 }
 
-pub(crate) fn conditional(cursor: &mut Cursor, place: Place) -> Result<Step, Stop> {
+pub(crate) fn conditional(cursor: &mut Cursor, place: Place) -> Result<Step, Stop>
+    ensures { IfOk result (λ step. Steps (Wanted.Operand (colons_of place.annotations)) step cursor.old cursor.new) }
+{
     nest(place.depth, 1)?;
     let word = expect(cursor, Mark::If)?;
     Ok(wait(
@@ -55,7 +71,9 @@ pub(crate) fn conditional(cursor: &mut Cursor, place: Place) -> Result<Step, Sto
     ))
 }
 
-pub(crate) fn case(cursor: &mut Cursor, place: Place) -> Result<Step, Stop> {
+pub(crate) fn case(cursor: &mut Cursor, place: Place) -> Result<Step, Stop>
+    ensures { IfOk result (λ step. Steps (Wanted.Operand (colons_of place.annotations)) step cursor.old cursor.new) }
+{
     nest(place.depth, 1)?;
     let word = expect(cursor, Mark::Case)?;
     Ok(wait(
@@ -65,7 +83,9 @@ pub(crate) fn case(cursor: &mut Cursor, place: Place) -> Result<Step, Stop> {
 }
 
 /// The expression behind `in` is read.
-pub fn body_of_let(place: Place, local: LetBody) -> Step {
+pub fn body_of_let(place: Place, local: LetBody) -> Step
+    ensures { (before after : Standing) → WaitsIn local before after → Steps (Wanted.Operand (colons_of place.annotations)) result before after }
+{
     wait(
         Frame::Form(Held::new(Form::Body(local))),
         Goal::Sequence(place.deeper(), None),
@@ -79,7 +99,9 @@ pub fn behind_form(
     notes: &mut Notes,
     form: Form,
     value: Held<Value>,
-) -> Result<Step, Stop> {
+) -> Result<Step, Stop>
+    ensures { IfOk result (λ step. (free : Colons) (needs : Wanted) (before middle : Standing) → WaitsForm form free needs before middle → ReadsValue needs value middle cursor.old → Steps (Wanted.Operand free) step before cursor.new) }
+{
     match form {
         Form::Lambda(mark, patterns, arrow) => behind_lambda(alloc, mark, patterns, arrow, value),
         Form::Let(place, word) => behind_let(cursor, place, word, value),
@@ -102,7 +124,9 @@ fn behind_lambda(
     patterns: Many<Pat>,
     arrow: Item,
     value: Held<Value>,
-) -> Result<Step, Stop> {
+) -> Result<Step, Stop>
+    ensures { IfOk result (λ step. (annotations : Annotations) (before middle after : Standing) → WaitsBody mark patterns arrow before middle → ReadsValue (Wanted.Sequence (inner_of annotations)) value middle after → Steps (Wanted.Operand (colons_of annotations)) step before after) }
+{
     let body = expression(value)?;
     let read = nodes::lambda(alloc, mark, patterns, arrow, body)?;
     Ok(done_expression(read))
@@ -113,7 +137,9 @@ fn behind_let(
     place: Place,
     word: Item,
     value: Held<Value>,
-) -> Result<Step, Stop> {
+) -> Result<Step, Stop>
+    ensures { IfOk result (λ step. (before middle : Standing) → Takes (IsWord (codes "let")) word before middle → ReadsValue (Wanted.Declarations DeclPlace.Local) value middle cursor.old → Steps (Wanted.Operand (colons_of place.annotations)) step before cursor.new) }
+{
     let block = declarations_of(value)?;
     let in_word = expect(cursor, Mark::In)?;
     let local = LetBody {
@@ -124,7 +150,9 @@ fn behind_let(
     Ok(body_of_let(place, local))
 }
 
-fn behind_in(alloc: Global, local: LetBody, value: Held<Value>) -> Result<Step, Stop> {
+fn behind_in(alloc: Global, local: LetBody, value: Held<Value>) -> Result<Step, Stop>
+    ensures { IfOk result (λ step. (annotations : Annotations) (before middle after : Standing) → WaitsIn local before middle → ReadsValue (Wanted.Sequence (inner_of annotations)) value middle after → Steps (Wanted.Operand (colons_of annotations)) step before after) }
+{
     let body = expression(value)?;
     let read = nodes::local(alloc, local, body)?;
     Ok(done_expression(read))
@@ -135,7 +163,9 @@ fn behind_test(
     place: Place,
     word: Item,
     value: Held<Value>,
-) -> Result<Step, Stop> {
+) -> Result<Step, Stop>
+    ensures { IfOk result (λ step. (before middle : Standing) → Takes (IsWord (codes "if")) word before middle → ReadsValue (Wanted.Sequence (inner_of place.annotations)) value middle cursor.old → Steps (Wanted.Operand (colons_of place.annotations)) step before cursor.new) }
+{
     let read = expression(value)?;
     let test = part(read)?;
     let then_word = expect(cursor, Mark::Then)?;
@@ -155,7 +185,9 @@ fn behind_then(
     place: Place,
     condition: Condition,
     value: Held<Value>,
-) -> Result<Step, Stop> {
+) -> Result<Step, Stop>
+    ensures { IfOk result (λ step. (before middle : Standing) → WaitsThen (colons_of place.annotations) condition before middle → ReadsValue (Wanted.Sequence (inner_of place.annotations)) value middle cursor.old → Steps (Wanted.Operand (colons_of place.annotations)) step before cursor.new) }
+{
     let read = expression(value)?;
     let first = part(read)?;
     let else_word = expect(cursor, Mark::Else)?;
@@ -171,7 +203,9 @@ fn behind_else(
     first: Part<Exp>,
     else_word: Item,
     value: Held<Value>,
-) -> Result<Step, Stop> {
+) -> Result<Step, Stop>
+    ensures { IfOk result (λ step. (annotations : Annotations) (before middle after : Standing) → WaitsElse (colons_of annotations) condition first else_word before middle → ReadsValue (Wanted.Sequence (inner_of annotations)) value middle after → Steps (Wanted.Operand (colons_of annotations)) step before after) }
+{
     let second = expression(value)?;
     let read = nodes::condition(alloc, condition, first, else_word, second)?;
     Ok(done_expression(read))
@@ -182,7 +216,9 @@ fn behind_case(
     depth: u32,
     word: Item,
     value: Held<Value>,
-) -> Result<Step, Stop> {
+) -> Result<Step, Stop>
+    ensures { IfOk result (λ step. (annotations : Annotations) (before middle : Standing) → Takes (IsWord (codes "case")) word before middle → ReadsValue (Wanted.Sequence (inner_of annotations)) value middle cursor.old → Steps (Wanted.Operand (colons_of annotations)) step before cursor.new) }
+{
     let read = expression(value)?;
     let scrutinee = part(read)?;
     let of_word = before_alternatives(cursor)?;
@@ -200,7 +236,9 @@ fn behind_of(
     part: Part<Exp>,
     of_word: Item,
     value: Held<Value>,
-) -> Result<Step, Stop> {
+) -> Result<Step, Stop>
+    ensures { IfOk result (λ step. (free : Colons) (before middle : Standing) → WaitsOf free word part of_word before middle → ReadsValue Wanted.Alternatives value middle cursor.now → Steps (Wanted.Operand free) step before cursor.now) }
+{
     let block = alternatives_of(value)?;
     notes.whole(cursor.pos());
     let exp = nodes::case(alloc, word, part, of_word, block)?;

@@ -1,5 +1,19 @@
 //! Infix sequences, with `::` and a type behind them: the Haskell 98 Report, sections 3, 3.4 and 3.16.
-ghost use Rattle.std.specs.Prelude.{◌≡◌, None};
+ghost use Rattle.std.specs.Prelude.{IfOk, None, Some, ◌≡◌};
+ghost use Rattle.std.specs.Option.{option_map};
+ghost use Rattle.hr_layout.specs.Standing.{Standing};
+ghost use Rattle.hr_tree.specs.Names.{operator_items};
+ghost use Rattle.hr_grammar.specs.Words.{IsMinus};
+ghost use Rattle.hr_grammar.specs.Spelled.{IsOperator};
+ghost use Rattle.hr_grammar.specs.Nodes.{PatPlace};
+ghost use Rattle.hr_parse_lexeme.specs.Reads.{Accepts, Spells};
+ghost use Rattle.hr_parse_pattern.specs.Patterns.{ReadsPat};
+ghost use Rattle.hr_parse_parts.specs.declared.place.Annotations.{Annotations};
+ghost use Rattle.hr_parse_parts.specs.Lists.{MayOperands, ReadsOperands};
+ghost use Rattle.hr_parse_parts.specs.Parts.{MayTwin, ReadsOperand, ReadsSequence};
+ghost use Rattle.hr_parse_parts.specs.Places.{colons_of};
+ghost use Rattle.hr_parse_parts.specs.Steps.{ReadsValue, Steps, Wanted};
+ghost use Rattle.hr_parse_parts.specs.Waits.{WaitsOperand};
 
 use hr_base::Item;
 use hr_layout::Cursor;
@@ -23,7 +37,9 @@ pub fn begin_sequence(
     cursor: &mut Cursor,
     place: Place,
     minus: Option<Item>,
-) -> Result<Step, Stop> {
+) -> Result<Step, Stop>
+    ensures { IfOk result (λ step. (before : Standing) → Accepts IsMinus minus before cursor.old → Steps (Wanted.Sequence place.annotations) step before cursor.new) }
+{
     let minus = minus_before(cursor, place, minus)?;
     let may_bind = place.may_bind && may_negate(cursor, &minus);
     let first = first_place(place, &minus).binding(may_bind);
@@ -41,7 +57,9 @@ fn minus_before(
     cursor: &mut Cursor,
     place: Place,
     minus: Option<Item>,
-) -> Result<Option<Item>, Stop> {
+) -> Result<Option<Item>, Stop>
+    ensures { IfOk result (λ found. (before : Standing) → Accepts IsMinus minus before cursor.old → Accepts IsMinus found before cursor.new) }
+{
     match minus {
         None => {
             if !place.may_bind && is_next(cursor, Mark::Minus) {
@@ -60,7 +78,8 @@ fn may_negate(cursor: &Cursor, minus: &Option<Item>) -> bool {
 
 /// An operand alone is no sequence, and stands one node less deep.
 fn first_place(place: Place, minus: &Option<Item>) -> Place
-    ensures { minus.now ≡ None → result ≡ place }
+    ensures alone { minus.now ≡ None → result ≡ place }
+    ensures colons { colons_of result.annotations ≡ colons_of place.annotations }
 {
     match minus {
         None => place,
@@ -75,7 +94,9 @@ pub fn behind_operand(
     notes: &mut Notes,
     sequence: Held<Sequence>,
     value: Held<Value>,
-) -> Result<Step, Stop> {
+) -> Result<Step, Stop>
+    ensures { IfOk result (λ step. (before middle : Standing) → WaitsOperand sequence before middle → ReadsValue (Wanted.Operand (colons_of sequence.place.annotations)) value middle cursor.old → Steps (Wanted.Sequence sequence.place.annotations) step before cursor.new) }
+{
     match mixed_of(value)? {
         Mixed::Expression(read) => behind_expression(alloc, cursor, notes, sequence, read),
         Mixed::Pattern(part) => pattern(alloc, cursor, notes, sequence.take(), part),
@@ -89,7 +110,9 @@ fn pattern(
     notes: &mut Notes,
     sequence: Sequence,
     last: Part<Pat>,
-) -> Result<Step, Stop> {
+) -> Result<Step, Stop>
+    ensures { IfOk result (λ step. (before middle : Standing) → WaitsOperand sequence before middle → ReadsPat PatPlace.Operand last middle cursor.old → Steps (Wanted.Sequence sequence.place.annotations) step before cursor.new) }
+{
     let Sequence {
         place,
         twins,
@@ -112,7 +135,9 @@ fn behind_expression(
     notes: &mut Notes,
     sequence: Held<Sequence>,
     read: Held<Read>,
-) -> Result<Step, Stop> {
+) -> Result<Step, Stop>
+    ensures { IfOk result (λ step. (before middle : Standing) → WaitsOperand sequence before middle → ReadsOperand (colons_of sequence.place.annotations) read middle cursor.old → Steps (Wanted.Sequence sequence.place.annotations) step before cursor.new) }
+{
     if goes_on(read.get()) && begins_operator(kind_ahead(cursor)) {
         return joined(alloc, cursor, sequence, read);
     }
@@ -128,7 +153,9 @@ fn joined(
     cursor: &mut Cursor,
     sequence: Held<Sequence>,
     last: Held<Read>,
-) -> Result<Step, Stop> {
+) -> Result<Step, Stop>
+    ensures { IfOk result (λ step. (before middle : Standing) → WaitsOperand sequence before middle → ReadsOperand (colons_of sequence.place.annotations) last middle cursor.old → Steps (Wanted.Sequence sequence.place.annotations) step before cursor.new) }
+{
     let place = sequence.get().place;
     if !place.has_section {
         nest(below(place.depth), last.get().height)?;
@@ -162,7 +189,9 @@ fn one_more(
     sequence: Sequence,
     last: Read,
     operator: Held<Operator>,
-) -> Result<Step, Stop> {
+) -> Result<Step, Stop>
+    ensures { IfOk result (λ step. (before middle behind : Standing) → WaitsOperand sequence before middle → ReadsOperand (colons_of sequence.place.annotations) last middle behind → Spells IsOperator operator_items operator behind cursor.old → Steps (Wanted.Sequence sequence.place.annotations) step before cursor.new) }
+{
     let Sequence {
         place,
         mut operands,
@@ -182,7 +211,9 @@ fn more_twins(
     minus: Option<&Item>,
     twin: Option<Held<Twin>>,
     operator: &Operator,
-) -> Result<Option<Operands<Pat>>, AllocError> {
+) -> Result<Option<Operands<Pat>>, AllocError>
+    ensures { IfOk result (λ all. (before middle inner outer after : Standing) → MayOperands twins before middle → Accepts IsMinus (option_map (λ item. item.now) minus.entry) middle inner → MayTwin PatPlace.Operand twin inner outer → Spells IsOperator operator_items operator.now outer after → MayOperands all before after) }
+{
     if is_constructor_operator(operator) {
         one_operand_more(alloc, twins, minus, twin, operator)
     } else {
@@ -196,7 +227,9 @@ fn next_operand(
     place: Place,
     operands: Operands<Exp>,
     twins: Option<Operands<Pat>>,
-) -> Step {
+) -> Step
+    ensures { (before : Standing) → ReadsOperands (colons_of place.annotations) operands before cursor.old → MayOperands twins before cursor.old → Steps (Wanted.Sequence place.annotations) result before cursor.new }
+{
     let minus = accept(cursor, Mark::Minus);
     let twins = kept(cursor, twins, &minus);
     let next = place.deeper().binding(twins.is_some());
@@ -213,7 +246,9 @@ fn kept(
     cursor: &Cursor,
     twins: Option<Operands<Pat>>,
     minus: &Option<Item>,
-) -> Option<Operands<Pat>> {
+) -> Option<Operands<Pat>>
+    ensures { (before after : Standing) → MayOperands twins before after → MayOperands result before after }
+{
     if may_negate(cursor, minus) {
         twins
     } else {
@@ -222,7 +257,9 @@ fn kept(
 }
 
 /// The sequence with its last operand.
-fn ended(alloc: Global, sequence: Sequence, last: Read) -> Result<Read, Stop> {
+fn ended(alloc: Global, sequence: Sequence, last: Read) -> Result<Read, Stop>
+    ensures { IfOk result (λ read. (before middle after : Standing) → WaitsOperand sequence before middle → ReadsOperand (colons_of sequence.place.annotations) last middle after → ReadsSequence sequence.place.annotations read before after) }
+{
     let Sequence {
         operands,
         twins,
@@ -255,7 +292,9 @@ fn sectioned(
     sequence: Sequence,
     last: Read,
     operator: Held<Operator>,
-) -> Result<Read, Stop> {
+) -> Result<Read, Stop>
+    ensures { IfOk result (λ read. (before middle behind after : Standing) → WaitsOperand sequence before middle → ReadsOperand (colons_of sequence.place.annotations) last middle behind → Spells IsOperator operator_items operator behind after → ReadsSequence sequence.place.annotations read before after) }
+{
     let Sequence {
         operands,
         minus,
@@ -282,7 +321,9 @@ fn annotated(
     notes: &mut Notes,
     place: Place,
     read: Read,
-) -> Result<Step, Stop> {
+) -> Result<Step, Stop>
+    ensures { IfOk result (λ step. (before : Standing) → ReadsSequence place.annotations read before cursor.old → Steps (Wanted.Sequence place.annotations) step before cursor.new) }
+{
     match place.annotations {
         Annotations::Allowed => with_type(alloc, cursor, notes, place.depth, read),
         Annotations::Barred => Ok(done_expression(read)),
@@ -297,7 +338,9 @@ fn with_type(
     notes: &mut Notes,
     depth: u32,
     read: Read,
-) -> Result<Step, Stop> {
+) -> Result<Step, Stop>
+    ensures { IfOk result (λ step. (before : Standing) → ReadsSequence Annotations.Allowed read before cursor.old → Steps (Wanted.Sequence Annotations.Allowed) step before cursor.new) }
+{
     if !goes_on(&read) || !is_next(cursor, Mark::DoubleColon) {
         return Ok(done_expression(read));
     }

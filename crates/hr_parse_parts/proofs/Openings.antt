@@ -10,7 +10,7 @@ use Rattle.hr_parse_lexeme.specs.declared.mark.Mark.{Mark}
 use Rattle.hr_parse_lexeme.specs.Marks.{IsMark, mark_class, mark_text}
 use Rattle.hr_parse_lexeme.specs.Reads.{Accepts, IsAhead, Takes}
 use Rattle.hr_parse_lexeme.proofs.Taking.{took_mark}
-use Rattle.hr_parse_parts.specs.Words.{OpensDeclarations}
+use Rattle.hr_parse_parts.specs.Words.{MayOpen, OpensDeclarations}
 
 word_is : (mark : Mark) → OpensDeclarations mark → is_of (role_by (mark_class mark) (mark_text mark)) ≡ false
 word_is Mark.Of opens = elim opens [ ]
@@ -41,3 +41,7 @@ opens_declarations mark before {item} {after} opens ahead there goes =
 pub opens_alternatives : (before : Standing) {item : Item} {after : Standing} → IsAhead (IsMark Mark.Of) before.blocks before.rest → next_of before.rest ≡ Some item → after ≡ taken before → after.behind_of ≡ true
 opens_alternatives before {item} {after} ahead there goes =
     behind_in true before.rest before.end before.blocks before.behind_of item there goes (of_opens item (word_taken Mark.Of ahead there goes).is)
+
+pub may_open : (mark : Mark) (found : Option Item) (before after : Standing) → OpensDeclarations mark → IsAhead (IsMark mark) before.blocks before.rest → found ≡ next_of before.rest → after ≡ taken before → MayOpen found after
+may_open mark None before after opens ahead there goes = tt
+may_open mark (Some item) before after opens ahead there goes = opens_declarations mark before opens ahead (sym there) goes

@@ -16,10 +16,10 @@ pub fn before_block(cursor: &mut Cursor, mark: Mark) -> Result<Item, Stop>
     ensures taken { IfOk result (λ word. Takes (IsMark mark) word cursor.old cursor.new) }
     ensures opens { IfOk result (λ word. cursor.new.behind_of ≡ false) }
 {
-    if !is_next(cursor, mark) {
-        return Err(Stop::Syntax);
+    match accept_before_block(cursor, mark) {
+        None => Err(Stop::Syntax),
+        Some(word) => Ok(word),
     }
-    past(cursor)
 }
 
 /// Takes the word before a block of declarations, if it is there.
@@ -40,8 +40,9 @@ pub fn before_alternatives(cursor: &mut Cursor) -> Result<Item, Stop>
     ensures taken { IfOk result (λ word. Takes (IsMark Mark.Of) word cursor.old cursor.new) }
     ensures opens { IfOk result (λ word. cursor.new.behind_of ≡ true) }
 {
-    if !is_next(cursor, Mark::Of) {
-        return Err(Stop::Syntax);
+    if is_next(cursor, Mark::Of) {
+        past(cursor)
+    } else {
+        Err(Stop::Syntax)
     }
-    past(cursor)
 }

@@ -1,0 +1,3 @@
+pub mod Infixes
+pub mod Applied
+pub mod Formed
