@@ -1,5 +1,5 @@
 //! The nodes of expressions, with their heights. Each is made and boxed in one step.
-ghost use Rattle.std.specs.Prelude.{IfOk, max, ◌+◌, ◌≡◌};
+ghost use Rattle.std.specs.Prelude.{IfOk, None, [], false, max, true, ◌+◌, ◌≡◌};
 ghost use Rattle.hr_tree.specs.declared.expressions.Exp.{Exp};
 ghost use Rattle.hr_parse_nodes.specs.Nodes.{condition_of, from_of, from_to_of, lambda_of, let_of, sequence_of};
 ghost use Rattle.hr_parse_parts.specs.Parts.{block_of};
@@ -158,13 +158,24 @@ pub fn sequence(
 ) -> Result<Part<Exp>, Stop>
     ensures { IfOk result (λ made. made ≡ sequence_of operands minus last) }
 {
-    if operands.is_empty() && minus.is_none() {
+    if stands_alone(&operands, &minus) {
         return Ok(last);
     }
     let mut operands = operands;
     operands.push(minus, last, None)?;
     let Operands { list, height } = operands;
     node(alloc, Exp::Infix(list), height)
+}
+
+/// Whether an operand has no other before it, and no minus.
+fn stands_alone(operands: &Operands<Exp>, minus: &Option<Item>) -> bool
+    ensures alone { result ≡ true → (operands.now.list ≡ []) × (minus.now ≡ None) }
+    ensures other { result ≡ false → operands.now.list ≡ [] → minus.now ≡ None → ⊥ }
+{
+    match minus {
+        None => operands.is_empty(),
+        Some(_) => false,
+    }
 }
 
 pub fn comprehension(alloc: Global, begun: Comprehension, right: Item) -> Result<Part<Exp>, Stop>

@@ -17,10 +17,11 @@ use Rattle.hr_tree.specs.declared.lists.Layout.{Layout}
 use Rattle.hr_grammar.specs.Offside.{column_of}
 use Rattle.hr_grammar.specs.Words.{IsLeftBrace, IsRightBrace, IsSemicolon}
 use Rattle.hr_parse_lexeme.specs.Reads.{IsAhead, Takes}
+use Rattle.hr_parse_parts.specs.declared.pieces.Ahead.{Ahead}
 use Rattle.hr_parse_parts.specs.declared.pieces.Bounds.{Bounds}
 use Rattle.hr_parse_parts.specs.declared.pieces.Start.{Start}
 use Rattle.hr_parse_parts.specs.Blocks.{Begins, IsEmpty, OpensBraces, OpensMargin, StartsPart}
-use Rattle.hr_parse_parts.specs.Finds.{EndsBraces, EndsMargin, IsNext, MayTakeSemicolon, TakesSemicolon}
+use Rattle.hr_parse_parts.specs.Finds.{block_by, EndsBraces, EndsMargin, Finds, IsNext, MayTakeSemicolon, TakesSemicolon}
 
 -- how a block opens
 opened_rest : (kind : BlockKind) (before : Standing) {how : Opened} {cursor : Standing} → how ≡ opening before → cursor ≡ opened_as kind before → cursor.rest ≡ opened_before how before.rest
@@ -130,3 +131,8 @@ next_semicolon (next ∷ rest) h = (next.item, refl, h)
 pub took_semicolon : (before : Standing) {found : Option Item} {after : Standing} → IsNext IsSemicolon before.rest → found ≡ next_of before.rest → after ≡ taken before → MayTakeSemicolon found before after
 took_semicolon before {found} {after} h e goes =
     let n = next_semicolon before.rest h in subst (λ f. MayTakeSemicolon f before after) (sym (e ∙ n.1)) (n.2, n.1, goes)
+
+-- by the bounds that were taken apart
+pub finds_at : {bounds other : Bounds} (kind : BlockKind) (outer : List OpenBlock) (ahead : Ahead) (a b : Standing) → bounds ≡ other → (a.blocks ≡ block_by kind other ∷ outer → Finds kind other outer ahead a b)
+    → a.blocks ≡ block_by kind bounds ∷ outer → Finds kind bounds outer ahead a b
+finds_at kind outer ahead a b e turn = subst (λ t. a.blocks ≡ block_by kind t ∷ outer → Finds kind t outer ahead a b) (sym e) turn

@@ -66,11 +66,11 @@ pub record WaitsPart (begun : Parenthesis) (before after : Standing) : Type 0 wh
   pub many : AsMany begun.twins (length begun.parts.list)
 
 -- a parenthesis and an operator
-pub record WaitsSection (opener : Item) (infix : Operator) (before after : Standing) : Type 0 where
+pub record WaitsSection (opener : Item) (sign : Operator) (before after : Standing) : Type 0 where
   pub middle : Standing
   pub left : Takes IsLeftParen opener before middle
-  pub operator : Spells IsOperator operator_items infix middle after
-  pub no_minus : IsNoMinus infix
+  pub operator : Spells IsOperator operator_items sign middle after
+  pub no_minus : IsNoMinus sign
 
 -- a square bracket and a first part
 pub record WaitsSecond (opener : Item) (begins : Part Exp) (separator : Item) (before after : Standing) : Type 0 where

@@ -1,6 +1,6 @@
 //! Patterns that have the lexemes of an expression. What may be an expression or a pattern, as a qualifier's
 //! beginning, is read once, and both are built, until a lexeme comes that only one of them can go on with.
-ghost use Rattle.std.specs.Prelude.{◌≡◌, ◌≤◌, ◌+◌, ℕ, Some, IfOk, IfSome};
+ghost use Rattle.std.specs.Prelude.{◌≡◌, ◌≤◌, ◌+◌, ℕ, [], true, Some, None, IfOk, IfSome};
 ghost use Rattle.std.specs.Option.{option_map};
 ghost use Rattle.hr_layout.specs.Standing.{Standing};
 ghost use Rattle.hr_tree.specs.Names.{constructor_items, operator_items, variable_items};
@@ -292,7 +292,7 @@ pub fn sequence_of(
     let Some(twin) = twin else {
         return Ok(None);
     };
-    if operands.is_empty() && minus.is_none() {
+    if stands_alone(&operands, minus) {
         return Ok(Some(twin));
     }
     let Some(last) = operand_of(alloc, minus, twin)? else {
@@ -301,6 +301,16 @@ pub fn sequence_of(
     nest(1, operands.height.max(last.height))?;
     let part = infix(alloc, operands, last)?;
     Ok(Some(Held::new(Twin::Pattern(part))))
+}
+
+/// Whether an operand has no other before it, and no minus.
+fn stands_alone(operands: &Operands<Pat>, minus: Option<&Item>) -> bool
+    ensures { result ≡ true → (operands.now.list ≡ []) × (option_map (λ item. item.now) minus.entry ≡ None) }
+{
+    match minus {
+        None => operands.is_empty(),
+        Some(_) => false,
+    }
 }
 
 fn same_operator(operator: &Operator) -> Result<Operator, AllocError>
