@@ -51,6 +51,10 @@ named_at place {named} p =
 integer_is : {number : Item} {a b : Standing} → Takes (IsOf Class.Integer) number a b → Takes IsLiteral number a b
 integer_is p = record { is = inl p.is; taken = p.taken }
 
+-- what was taken apart
+pub at_twin : (place : PatPlace) {twin other : Twin} (a b : Standing) → twin ≡ other → ReadsTwin place twin a b → ReadsTwin place other a b
+at_twin place a b e p = subst (λ t. ReadsTwin place t a b) e p
+
 -- the pattern, of which nothing more is read
 pub named_pattern : {named : Constructor} {part : Part Pat} → part ≡ record { tree = Nullary named; height = 1 } → (place : PatPlace) (a b : Standing) → ReadsTwin place (Twin.Named named) a b → ReadsPat place part a b
 named_pattern e place a b p = made e (named_at place p)
