@@ -1,10 +1,8 @@
 //! The typing of one top-level group, and of a group without a typing what is shown.
-use crate::context::Context;
-use crate::error::Halt;
-use crate::machine::Machine;
 use hr_base::Entity;
 use hr_type::Scheme;
 use hr_typing_code::Group;
+use hr_typing_machine::{Context, Halt, Machine};
 use hr_typing_walk::Rule;
 use std::alloc::{AllocError, Global};
 

@@ -1,6 +1,4 @@
-use crate::context::{Context, Sign, Signs};
 use crate::error::TypeError;
-use crate::grades::Grades;
 use crate::groups::{Outcome, type_group};
 use crate::main_type::has_main;
 use crate::resolved::Resolved;
@@ -13,6 +11,8 @@ use hr_tree::Module;
 use hr_tydecl::{Declared, lexeme_text, place_at};
 use hr_type::Scheme;
 use hr_typing_code::{Group, ModuleRules};
+use hr_typing_grades::Grades;
+use hr_typing_machine::{Context, Sign, Signs};
 use hr_typing_walk::Signed;
 use indexmap::IndexMap;
 use std::alloc::{AllocError, Global};

@@ -1,6 +1,6 @@
 //! The graded trees of a module's infix sequences, as they are asked for: by the first operator of the operands that stand
 //! in a sequence, or by a minus before it.
-use crate::pushing::push;
+use crate::steps::{Step, steps_through};
 use hr_fixity::Graded;
 use hr_sequences::{Sequence, SequencePart, sequences_of};
 use hr_tree::Module;
@@ -28,23 +28,6 @@ pub struct Grades<'a> {
     sequences: Vec<Sequence>,
     trees: &'a [Graded],
     starts: IndexMap<usize, Start>,
-}
-
-/// What is done with the operands of a sequence, one step behind another.
-#[derive(Clone, Copy, Drop)]
-pub enum Step {
-    /// the next operand from the left
-    Operand,
-    Negate,
-    /// an operator, by its lexeme, on the last two
-    Operator(usize),
-}
-
-/// What is still to be done with a graded tree: to go through it, or a step behind its parts.
-#[derive(Clone, Copy)]
-enum Work<'a> {
-    Through(&'a Graded),
-    Do(Step),
 }
 
 impl<'a> Grades<'a> {
@@ -118,7 +101,7 @@ fn is_infix(part: SequencePart) -> bool {
 }
 
 /// The lexeme of an operator or minus.
-fn item_of(part: SequencePart) -> Option<usize> {
+pub fn item_of(part: SequencePart) -> Option<usize> {
     match part {
         SequencePart::Operand => None,
         SequencePart::Operator { item } => Some(item),
@@ -146,56 +129,5 @@ fn side_of(tree: &Graded, side: Side) -> &Graded {
             Side::Right,
         ) => right.get(),
         _ => tree,
-    }
-}
-
-/// The steps of a tree, each behind those of its parts.
-fn steps_through(
-    alloc: Global,
-    tree: &Graded,
-    parts: &[SequencePart],
-) -> Result<Vec<Step>, AllocError> {
-    let mut steps = Vec::new(alloc);
-    let mut left = Vec::new(alloc);
-    left.push(Work::Through(tree))?;
-    for _ in 0..u64::MAX {
-        match left.pop() {
-            None => return Ok(steps),
-            Some(Work::Do(step)) => push(&mut steps, step)?,
-            Some(Work::Through(tree)) => go_through(tree, parts, &mut left)?,
-        }
-    }
-    Err(AllocError)
-}
-
-/// Puts what is to be done with a tree on the stack, the first on top.
-fn go_through<'a>(
-    tree: &'a Graded,
-    parts: &[SequencePart],
-    left: &mut Vec<Work<'a>>,
-) -> Result<(), AllocError> {
-    match tree {
-        Graded::Operand(_) => left.push(Work::Do(Step::Operand))?,
-        Graded::Negated { minus: _, operand } => {
-            left.push(Work::Do(Step::Negate))?;
-            left.push(Work::Through(operand.get()))?;
-        }
-        Graded::Binary {
-            operator,
-            left: first,
-            right,
-        } => {
-            left.push(Work::Do(step_of(*operator, parts)))?;
-            left.push(Work::Through(right.get()))?;
-            left.push(Work::Through(first.get()))?;
-        }
-    }
-    Ok(())
-}
-
-fn step_of(operator: u32, parts: &[SequencePart]) -> Step {
-    match parts.get(operator as usize) {
-        Some(part) => Step::Operator(item_of(*part).unwrap_or(usize::MAX)),
-        None => Step::Operator(usize::MAX),
     }
 }

@@ -1,8 +1,8 @@
 //! What the rules of a group are run against, which stays the same while they run.
-use crate::grades::Grades;
 use hr_base::{Binder, Entity, Spot};
 use hr_instances::Entities;
 use hr_type::Scheme;
+use hr_typing_grades::Grades;
 use indexmap::IndexMap;
 
 /// A signature of a name: its lexeme in the signature, and the number of the type among the declared ones.

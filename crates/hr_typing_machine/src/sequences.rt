@@ -1,10 +1,10 @@
 //! Infix sequences, typed in the order of their grades.
 use crate::applying::last_of;
 use crate::error::{Halt, lost};
-use crate::grades::Step;
 use crate::machine::Machine;
 use crate::pushing::push;
 use hr_type::Mono;
+use hr_typing_grades::Step;
 use hr_typing_walk::Used;
 
 /// Whether a sequence is of patterns, whose operators are constructors, or of expressions.
