@@ -76,14 +76,8 @@ fn definition_error(alloc: Global, error: &TypeError, said: &mut String) -> Resu
 }
 
 /// The types of the values of the last module of the case, in the order in which it first names them.
-pub fn types(
-    alloc: Global,
-    project: &Project,
-    declared: &Declared,
-    typing: &Typing,
-    said: &mut String,
-) -> Result<(), AllocError> {
-    let scope = scope_of(alloc, declared)?;
+pub fn types(alloc: Global, project: &Project, said: &mut String) -> Result<(), AllocError> {
+    let scope = scope_of(alloc, project.declared())?;
     let last = project.texts().len().saturating_sub(1);
     let entries = project.bindings().modules.as_slice().get(last);
     let (Some(tree), Some(entries)) = (project.modules().get(last), entries) else {
@@ -94,7 +88,7 @@ pub fn types(
     for entry in entries.as_slice() {
         if let Some(Binder::Global(entity)) = entry {
             if entity.module.is(name.as_slice()) && is_first(entity, &mut seen)? {
-                add_type(alloc, entity, typing, &scope, said)?;
+                add_type(alloc, entity, project.typing(), &scope, said)?;
             }
         }
     }
