@@ -3,9 +3,16 @@ use hr_type::Scheme;
 use indexmap::IndexMap;
 
 /// The types of the values and constructors of a project.
-#[derive(Drop)]
 pub struct Typing {
     pub schemes: IndexMap<Entity, Scheme>,
+}
+
+/// By hand, so that the crates above let it go by one call.
+impl Drop for Typing {
+    fn drop(self) {
+        let Typing { schemes } = self;
+        drop(schemes);
+    }
 }
 
 impl Typing {

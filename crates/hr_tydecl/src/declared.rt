@@ -5,7 +5,6 @@ use thiserror::Error;
 
 /// What the modules of a project declare of types. A signature or annotated expression is named by its `::`; its
 /// variables are numbered in the order in which they are written, those of a type by its head.
-#[derive(Drop)]
 pub struct Declared {
     /// for each type its number of arguments
     pub arities: Seq<(Entity, u32)>,
@@ -13,6 +12,22 @@ pub struct Declared {
     pub synonyms: Seq<(Entity, Scheme)>,
     pub constructors: Seq<(Entity, Scheme)>,
     pub signatures: Seq<(Spot, Scheme)>,
+}
+
+/// By hand, so that the crates above let it go by one call.
+impl Drop for Declared {
+    fn drop(self) {
+        let Declared {
+            arities,
+            synonyms,
+            constructors,
+            signatures,
+        } = self;
+        drop(arities);
+        drop(synonyms);
+        drop(constructors);
+        drop(signatures);
+    }
 }
 
 impl Declared {
