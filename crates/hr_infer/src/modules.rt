@@ -1,3 +1,10 @@
+ghost use Rattle.std.specs.Prelude.{◌≡◌, IfOk, Some};
+ghost use Rattle.indexmap.specs.IndexMap.{get};
+ghost use Rattle.hr_base.specs.declared.bind.Entity.{Entity};
+ghost use Rattle.hr_type.specs.declared.mono.Scheme.{Scheme};
+ghost use Rattle.hr_type.specs.Types.{IsInstance};
+ghost use Rattle.hr_infer.specs.Main.{main_entity, main_type};
+
 use crate::error::TypeError;
 use crate::groups::{Outcome, type_group};
 use crate::main_type::has_main;
@@ -38,7 +45,9 @@ struct Part<'a> {
 }
 
 /// The types of all values and constructors of the modules.
-pub fn infer(alloc: Global, resolved: Resolved, declared: &Declared) -> Result<Typing, TypeError> {
+pub fn infer(alloc: Global, resolved: Resolved, declared: &Declared) -> Result<Typing, TypeError>
+    ensures main { IfOk result (λ typing. (scheme : Scheme) × (get Entity.eq typing.schemes main_entity ≡ Some scheme) × IsInstance scheme main_type) }
+{
     let mut project = Project::new(alloc, resolved, declared)?;
     for number in resolved.order {
         project.type_module(*number)?;
