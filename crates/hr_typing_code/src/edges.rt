@@ -65,7 +65,7 @@ fn node_at(nodes: &Nodes, entries: &[Option<Binder>], lexeme: usize) -> Option<u
 }
 
 /// The edges whose ends are below a number.
-#[tactic(auto, using(crate::proofs::Within::within_none))]
+#[tactic(auto, using(crate::proofs::Ends::within_none))]
 pub fn within(
     alloc: Global,
     count: usize,
@@ -80,7 +80,7 @@ pub fn within(
     Ok(kept)
 }
 
-#[tactic(auto, using(crate::proofs::Within::within_more))]
+#[tactic(auto, using(crate::proofs::Ends::within_more))]
 fn put_within(
     count: usize,
     from: usize,
