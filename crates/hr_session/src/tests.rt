@@ -1,0 +1,89 @@
+ghost use Rattle.std.specs.Prelude.{◌≡◌, ◌+◌, true, false};
+
+use crate::{Session, Stepper};
+use hr_base::{Pos, Text};
+use hr_script::Command;
+use std::alloc::{AllocError, Global};
+use std::test::Fail;
+
+/// Counts up to 3.
+struct Counter;
+
+#[derive(Debug, Drop)]
+enum Why {
+    Full,
+    Memory(AllocError),
+}
+
+impl Stepper<u32, Why> for Counter {
+    ghost takes = { λ _ p _ q. q ≡ p + 1 };
+
+    ghost refuses = { λ _ _ _ _. Unit {0} };
+
+    ghost is_memory = { elim [ Why.Full ↦ false | Why.Memory _ ↦ true ] };
+
+    fn take(&self, _alloc: Global, project: &u32, _command: &Command) -> Result<u32, Why> {
+        if *project < 3 {
+            Ok(*project + 1)
+        } else {
+            Err(Why::Full)
+        }
+    }
+
+    fn wants_memory(why: &Why) -> bool {
+        match why {
+            Why::Full => false,
+            Why::Memory(_) => true,
+        }
+    }
+
+    fn memory(error: AllocError) -> Why {
+        Why::Memory(error)
+    }
+}
+
+fn demote(alloc: Global) -> Result<Command, AllocError> {
+    Ok(Command::Demote {
+        module: Text::from_slice(alloc, b"Main")?,
+        pos: Pos { line: 1, col: 1 },
+    })
+}
+
+/// Each command as `+` for a step or `-` for `undo`; the lines as `+`, `-`, `0` where there was
+/// nothing to take back, and `!` for a refusal; then the project and the depth.
+fn ran(alloc: Global, script: &str, keep_going: bool) -> Result<String, Fail> {
+    let mut commands = Vec::new(alloc);
+    for c in script.chars() {
+        commands.push(if c == '+' {
+            demote(alloc)?
+        } else {
+            Command::Undo
+        })?;
+    }
+    let mut session = Session::new(alloc, 1u32)?;
+    let ran = session.run_script(alloc, &Counter, commands.as_slice(), keep_going)?;
+    let lines = ran.lines.len();
+    let refused = ran.refused;
+    let project = *session.project();
+    let depth = session.depth();
+    Ok(format!(in alloc; "{lines} {refused} {project} {depth}")?)
+}
+
+#[test]
+fn scripts_are_carried_out_line_by_line(rt: HostRuntime) -> Result<(), Fail> {
+    let rows = [
+        ("", false, "0 false 1 0"),
+        ("+", false, "1 false 2 1"),
+        ("+-", false, "2 false 1 0"),
+        ("-", false, "1 false 1 0"),
+        ("++-+", false, "4 false 3 2"),
+        ("+++-", false, "3 true 3 2"),
+        ("+++-", true, "4 false 2 1"),
+        ("+++-+", true, "5 false 3 2"),
+    ];
+    for (script, keep_going, want) in rows {
+        let shown = ran(rt.alloc(), script, keep_going)?;
+        assert_eq!(rt; shown.as_str(), want, "{script}");
+    }
+    Ok(())
+}
