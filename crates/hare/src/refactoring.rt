@@ -1,33 +1,29 @@
-ghost use Rattle.std.specs.Prelude.{◌≡◌, [], length, map, slice_index_or};
-ghost use Rattle.std.specs.String.{string_bytes};
-ghost use Rattle.hr_files.specs.Read.{AreReady};
-ghost use Rattle.hare.specs.Ends.{Ends, IsOffered, IsStep, status_of};
-ghost use Rattle.hare.specs.Outsides.{outside};
-ghost use Rattle.hare.specs.Shown.{shown};
-ghost use Rattle.hare.specs.Steps.{AreShort, RunsAny, RunsFor, RunsOn, RunsUnread};
-
+use crate::replacing::replace;
 use crate::report;
+use crate::script::{Unscripted, read_script};
 use crate::status::Status;
-use crate::steps::{Step, take_step};
-use crate::words::{Renaming, renaming_of};
-use hr_base::{Seq, Text};
-use hr_files::{Unread, changes, read_files, replace_files};
-use hr_shelf::{Failed, Shelf, Sink};
+use crate::steps::Refactorings;
+use crate::telling::tell;
+use hr_base::Text;
+use hr_check::{Project, check};
+use hr_files::{Unread, changes, read_files};
+use hr_script::Command;
+use hr_session::Session;
+use hr_shelf::{Shelf, Sink};
+use hr_words::{Request, request_of};
 use std::alloc::{AllocError, Global};
 
 /// The files of a project, at most.
 const FILES_LIMIT: usize = 200;
 
-/// Does what the words say: reads the files, carries out the command, replaces the files that change and writes the
-/// report. The status says how far that came.
+/// Does what the words say: reads the script and the files, carries out the script's commands, replaces the files that
+/// change and writes the report. The status says how far that came.
 pub fn refactor<S: Shelf, K: Sink>(
     alloc: Global,
     words: &[String],
     shelf: &mut S,
     out: &mut K,
-) -> Status
-    ensures only { Ends (map string_bytes words.now) (outside (S.store shelf.old) (K.output out.old)) (outside (S.store shelf.new) (K.output out.new)) result }
-{
+) -> Status {
     run(alloc, words, shelf, out).unwrap_or(Status::Memory)
 }
 
@@ -37,11 +33,9 @@ fn run<S: Shelf, K: Sink>(
     words: &[String],
     shelf: &mut S,
     out: &mut K,
-) -> Result<Status, AllocError>
-    ensures { Ends (map string_bytes words.now) (outside (S.store shelf.old) (K.output out.old)) (outside (S.store shelf.new) (K.output out.new)) (status_of result) }
-{
-    match renaming_of(alloc, words)? {
-        Some(command) => rename_project(alloc, command, shelf, out),
+) -> Result<Status, AllocError> {
+    match request_of(alloc, words)? {
+        Some(request) => run_request(alloc, &request, shelf, out),
         None => {
             let report = report::bad_words(alloc)?;
             Ok(tell(out, report.as_slice(), Status::BadWords))
@@ -49,132 +43,130 @@ fn run<S: Shelf, K: Sink>(
     }
 }
 
-/// Carries out the command, if its files are not too many.
-fn rename_project<S: Shelf, K: Sink>(
+/// Runs the script, if the files are not too many and it is one.
+fn run_request<S: Shelf, K: Sink>(
     alloc: Global,
-    command: Renaming<'_>,
+    request: &Request,
     shelf: &mut S,
     out: &mut K,
-) -> Result<Status, AllocError>
-    ensures { RunsAny (shown command.entry) (S.store shelf.old) (K.output out.old) (S.store shelf.new) (K.output out.new) (status_of result) }
-{
-    if command.files.len() > FILES_LIMIT {
+) -> Result<Status, AllocError> {
+    if request.files.len() > FILES_LIMIT {
         let report = report::over_limit(alloc, "modules")?;
-        Ok(tell(out, report.as_slice(), Status::OverLimit))
-    } else {
-        rename_files(alloc, command, shelf, out)
+        return Ok(tell(out, report.as_slice(), Status::OverLimit));
+    }
+    match read_script(alloc, shelf, request.script.as_str()) {
+        Ok(commands) => run_commands(alloc, request, commands.as_slice(), shelf, out),
+        Err(unscripted) => tell_unscripted(alloc, request, unscripted, out),
     }
 }
 
-/// Reads the files of the command, and goes on with their texts.
-fn rename_files<S: Shelf, K: Sink>(
+/// Reports that there is no script.
+fn tell_unscripted<K: Sink>(
     alloc: Global,
-    command: Renaming<'_>,
+    request: &Request,
+    unscripted: Unscripted,
+    out: &mut K,
+) -> Result<Status, AllocError> {
+    match unscripted {
+        Unscripted::Missing => {
+            let report = report::read_fault(alloc, request.script.as_str())?;
+            Ok(tell(out, report.as_slice(), Status::ReadFault))
+        }
+        Unscripted::TooLong => {
+            let report = report::over_limit(alloc, "script")?;
+            Ok(tell(out, report.as_slice(), Status::OverLimit))
+        }
+        Unscripted::BadLine(number) => {
+            let report = report::bad_script(alloc, number)?;
+            Ok(tell(out, report.as_slice(), Status::BadScript))
+        }
+        Unscripted::TooManySteps => {
+            let report = report::over_limit(alloc, "steps")?;
+            Ok(tell(out, report.as_slice(), Status::OverLimit))
+        }
+        Unscripted::Memory => Err(AllocError),
+    }
+}
+
+/// Reads the files, and goes on with their texts.
+fn run_commands<S: Shelf, K: Sink>(
+    alloc: Global,
+    request: &Request,
+    commands: &[Command],
     shelf: &mut S,
     out: &mut K,
-) -> Result<Status, AllocError>
-    ensures { RunsFor (shown command.entry) (S.store shelf.old) (K.output out.old) (S.store shelf.new) (K.output out.new) (status_of result) }
-{
-    match read_files(alloc, shelf, command.files) {
-        Ok(texts) => rename_texts(alloc, command, texts.as_slice(), shelf, out),
-        Err(unread) => tell_unread(alloc, command, unread, out),
+) -> Result<Status, AllocError> {
+    match read_files(alloc, shelf, request.files.as_slice()) {
+        Ok(texts) => run_texts(alloc, request, commands, texts.as_slice(), shelf, out),
+        Err(unread) => tell_unread(alloc, request, unread, out),
     }
 }
 
-/// Reports that the files of the command were not read.
+/// Reports that the files were not read.
 fn tell_unread<K: Sink>(
     alloc: Global,
-    command: Renaming<'_>,
+    request: &Request,
     unread: Unread,
     out: &mut K,
-) -> Result<Status, AllocError>
-    ensures { RunsUnread (shown command.entry) unread (K.output out.old) (K.output out.new) (status_of result) }
-{
+) -> Result<Status, AllocError> {
+    let files = request.files.as_slice();
     match unread {
         Unread::Missing(file) => {
-            let report = report::read_fault(alloc, report::name_at(command.files, file))?;
+            let report = report::read_fault(alloc, report::name_at(files, file))?;
             Ok(tell(out, report.as_slice(), Status::ReadFault))
         }
         Unread::TooLong(file) => {
-            let report = report::over_limit(alloc, report::name_at(command.files, file))?;
+            let report = report::over_limit(alloc, report::name_at(files, file))?;
             Ok(tell(out, report.as_slice(), Status::OverLimit))
         }
         Unread::TooLongTogether => {
             let report = report::over_limit(alloc, "project")?;
             Ok(tell(out, report.as_slice(), Status::OverLimit))
         }
-        Unread::Memory => Ok(Status::Memory),
+        Unread::Memory => Err(AllocError),
     }
 }
 
-/// Carries out the command on the texts of its files, which are ready to be replaced.
-fn rename_texts<S: Shelf, K: Sink>(
+/// Checks the project of the texts, which are ready to be replaced, and goes on with it.
+fn run_texts<S: Shelf, K: Sink>(
     alloc: Global,
-    command: Renaming<'_>,
+    request: &Request,
+    commands: &[Command],
     texts: &[Text],
     shelf: &mut S,
     out: &mut K,
-) -> Result<Status, AllocError>
-    requires ready { AreReady (S.store shelf.old).ready (map string_bytes command.files.now) }
-    requires short { AreShort texts.now }
-    requires count { length texts.now ≡ length (map string_bytes command.files.now) }
-    ensures { RunsOn (shown command.entry) texts.now (S.store shelf.old) (K.output out.old) (S.store shelf.new) (K.output out.new) (status_of result) }
-{
-    match take_step(alloc, command, texts)? {
-        Step::Renamed(news) => replace(alloc, command, texts, news.as_slice(), shelf, out),
-        Step::NotAccepted(error) => {
-            let report = report::not_accepted(alloc, command.files, &error)?;
+) -> Result<Status, AllocError> {
+    match check(alloc, texts) {
+        Ok(project) => run_project(alloc, request, commands, texts, project, shelf, out),
+        Err(error) => {
+            let report = report::not_accepted(alloc, request.files.as_slice(), &error)?;
             Ok(tell(out, report.as_slice(), Status::NotAccepted))
         }
-        Step::Refused(why) => {
-            let report = report::refused(alloc, &why)?;
-            Ok(tell(out, report.as_slice(), Status::StepRefused))
-        }
     }
 }
 
-/// Replaces the files that change and reports. Nothing here takes memory once the new bytes and the reports are made.
-fn replace<S: Shelf, K: Sink>(
+/// Carries out the commands in memory, and replaces the files that change.
+fn run_project<S: Shelf, K: Sink>(
     alloc: Global,
-    command: Renaming<'_>,
-    olds: &[Text],
-    news: &[Text],
+    request: &Request,
+    commands: &[Command],
+    texts: &[Text],
+    project: Project,
     shelf: &mut S,
     out: &mut K,
-) -> Result<Status, AllocError>
-    requires ready { AreReady (S.store shelf.old).ready (map string_bytes command.files.now) }
-    requires count { length olds.now ≡ length (map string_bytes command.files.now) }
-    ensures { IsStep (shown command.entry) olds.now news.now → RunsOn (shown command.entry) olds.now (S.store shelf.old) (K.output out.old) (S.store shelf.new) (K.output out.new) (status_of result) }
-{
-    let changes = changes(alloc, olds, news)?;
-    let done = report::done(alloc, command.files, changes.as_slice())?;
-    let faults = report::write_faults(alloc, command.files, changes.as_slice())?;
-    match replace_files(shelf, command.files, changes) {
-        Ok(()) => Ok(tell(out, done.as_slice(), Status::Done)),
-        Err(refused) => Ok(tell(
-            out,
-            fault_at(faults.as_slice(), refused),
-            Status::WriteFault,
-        )),
+) -> Result<Status, AllocError> {
+    let mut session = Session::new(alloc, project)?;
+    let ran = session.run_script(alloc, &Refactorings, commands, request.keep_going)?;
+    let lines = report::steps(alloc, commands, ran.lines.as_slice())?;
+    if ran.refused {
+        let report = report::nothing_changed(lines)?;
+        return Ok(tell(out, report.as_slice(), Status::StepRefused));
     }
-}
-
-/// The report of the change of that number.
-fn fault_at(faults: &[Seq<u8>], refused: usize) -> &[u8]
-    ensures { result.now ≡ slice_index_or faults.now refused [] }
-{
-    match faults.get(refused) {
-        Some(report) => report.as_slice(),
-        None => b"",
+    let news = session.project().texts();
+    if request.dry_run {
+        let changes = changes(alloc, texts, news)?;
+        let report = report::changed(alloc, lines, request.files.as_slice(), changes.as_slice())?;
+        return Ok(tell(out, report.as_slice(), Status::Done));
     }
-}
-
-/// Writes the report in one piece. The status stands, unless it was not written.
-fn tell<K: Sink>(out: &mut K, report: &[u8], status: Status) -> Status
-    ensures { IsOffered report.now status (K.output out.old) (K.output out.new) result }
-{
-    match out.write(report) {
-        Ok(()) => status,
-        Err(Failed) => Status::ReportFault,
-    }
+    replace(alloc, request.files.as_slice(), lines, texts, news, shelf, out)
 }

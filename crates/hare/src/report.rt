@@ -3,10 +3,11 @@ ghost use Rattle.std.specs.String.{string_bytes};
 ghost use Rattle.hr_files.specs.Replaced.{name_of};
 ghost use Rattle.hare.specs.Report as spec;
 
-use hr_base::Seq;
 use hr_check::LoadError;
 use hr_files::Change;
 use hr_report::{project_refusal, step_refusal};
+use hr_script::Command;
+use hr_session::{Line, Report};
 use hr_why::Why;
 use std::alloc::{AllocError, Global};
 
@@ -57,40 +58,104 @@ fn add_line(text: &mut Vec<u8>, line: &str) -> Result<(), AllocError>
     Ok(())
 }
 
-/// A step that was carried out, and the files that changed.
-pub fn done(alloc: Global, files: &[String], changes: &[Change]) -> Result<Vec<u8>, AllocError>
-    ensures { IfOk result (λ text. text.items ≡ spec.done (map (λ change. name_of (map string_bytes files.now) change) changes.now)) }
-{
-    let mut text = Vec::from_slice(alloc, b"1 rename: done\n")?;
-    let count = format!(in alloc; "changed {}\n", changes.len())?;
-    text.extend_from_slice(count.as_bytes())?;
+/// A script with a line that is no command.
+pub fn bad_script(alloc: Global, number: u32) -> Result<Vec<u8>, AllocError> {
+    let text = format!(in alloc; "script: bad line {number}\n")?;
+    Vec::from_slice(alloc, text.as_bytes())
+}
+
+/// A line for each command that ran, with its number from 1.
+pub fn steps(
+    alloc: Global,
+    commands: &[Command],
+    lines: &[Line<Why>],
+) -> Result<Vec<u8>, AllocError> {
+    let mut text = Vec::new(alloc);
+    for (index, (command, line)) in commands.iter().zip(lines.iter()).enumerate() {
+        let begin = format!(in alloc; "{} {}: ", index + 1, command.verb().word())?;
+        text.extend_from_slice(begin.as_bytes())?;
+        add_end(alloc, &mut text, line)?;
+    }
+    Ok(text)
+}
+
+/// What became of a command, behind its number and word.
+fn add_end(alloc: Global, text: &mut Vec<u8>, line: &Line<Why>) -> Result<(), AllocError> {
+    match line {
+        Line::Good(Report::Done) => add_line(text, "done"),
+        Line::Good(Report::Undone(true)) => add_line(text, "done"),
+        Line::Good(Report::Undone(false)) => add_line(text, "nothing"),
+        Line::Refused(why) => {
+            text.extend_from_slice(b"refused ")?;
+            let cause = step_refusal(alloc, why)?;
+            text.extend_from_slice(cause.as_slice())?;
+            text.push(b'\n')?;
+            Ok(())
+        }
+    }
+}
+
+/// Behind the lines of the steps: no file changed.
+pub fn nothing_changed(lines: Vec<u8>) -> Result<Vec<u8>, AllocError> {
+    let mut text = lines;
+    add_line(&mut text, "changed 0")?;
+    Ok(text)
+}
+
+/// Behind the lines of the steps: the files that changed.
+pub fn changed(
+    alloc: Global,
+    lines: Vec<u8>,
+    files: &[String],
+    changes: &[Change],
+) -> Result<Vec<u8>, AllocError> {
+    let mut text = lines;
+    let count = format!(in alloc; "changed {}", changes.len())?;
+    add_line(&mut text, count.as_str())?;
     for change in changes {
         add_line(&mut text, name_at(files, change.file))?;
     }
     Ok(text)
 }
 
-/// For each change the report that its file could not be replaced.
-pub fn write_faults(
-    alloc: Global,
-    files: &[String],
-    changes: &[Change],
-) -> Result<Vec<Seq<u8>>, AllocError>
-    ensures { IfOk result (λ texts. texts.items ≡ map (λ change. spec.write_fault (name_of (map string_bytes files.now) change)) changes.now) }
-{
-    let mut texts = Vec::new(alloc);
+const WRITE_FAULT: &str = "write fault: ";
+const ROLLED_BACK: &str = "rolled back";
+const NOT_ROLLED_BACK: &str = "not rolled back: ";
+
+/// As many bytes as `add_fault` adds at most, whichever of these changes is refused, and whatever then stays.
+pub fn fault_room(files: &[String], changes: &[Change]) -> usize {
+    let mut room = ROLLED_BACK.len() + 1;
     for change in changes {
-        texts.push(write_fault(alloc, name_at(files, change.file))?)?;
+        let name = name_at(files, change.file).len();
+        room += WRITE_FAULT.len() + NOT_ROLLED_BACK.len() + 2 * (name + 1);
     }
-    Ok(texts)
+    room
 }
 
-fn write_fault(alloc: Global, file: &str) -> Result<Seq<u8>, AllocError>
-    ensures { IfOk result (λ text. text ≡ spec.write_fault file.now) }
-{
-    let mut list = Vec::from_slice(alloc, b"1 rename: done\nwrite fault: ")?;
-    add_line(&mut list, file)?;
-    Ok(Seq { list })
+/// Behind the lines of the steps: the file that could not be replaced, and those that could not be given their old
+/// bytes again, in the order of the tries. There is room for it.
+pub fn add_fault(text: &mut Vec<u8>, files: &[String], file: usize, stayed: &[usize]) {
+    put_line(text, WRITE_FAULT, name_at(files, file));
+    if stayed.is_empty() {
+        put_line(text, ROLLED_BACK, "");
+    }
+    for file in stayed {
+        put_line(text, NOT_ROLLED_BACK, name_at(files, *file));
+    }
+}
+
+/// Adds a line for which there is room.
+fn put_line(text: &mut Vec<u8>, begin: &str, end: &str) {
+    put(text, begin.as_bytes());
+    put(text, end.as_bytes());
+    put(text, b"\n");
+}
+
+/// Adds bytes for which there is room.
+fn put(text: &mut Vec<u8>, bytes: &[u8]) {
+    for byte in bytes {
+        text.push_reserved(*byte);
+    }
 }
 
 /// The name of the file of that number.
@@ -101,15 +166,4 @@ pub fn name_at(files: &[String], file: usize) -> &str
         Some(name) => name.as_str(),
         None => "",
     }
-}
-
-/// A step that is refused, with the refusal's number and its fields.
-pub fn refused(alloc: Global, why: &Why) -> Result<Vec<u8>, AllocError>
-    ensures { IfOk result (λ text. Some text.items ≡ spec.refused why.now) }
-{
-    let mut text = Vec::from_slice(alloc, b"1 rename: refused ")?;
-    let cause = step_refusal(alloc, why)?;
-    text.extend_from_slice(cause.as_slice())?;
-    text.extend_from_slice(b"\nchanged 0\n")?;
-    Ok(text)
 }

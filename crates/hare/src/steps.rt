@@ -1,92 +1,53 @@
-//! A renaming in memory.
-ghost use Rattle.std.specs.Prelude.{◌≡◌, ◌∷◌, [], IfOk, MatchOption};
-ghost use Rattle.hare.specs.Ends.{IsNoPlainStep, IsStep};
-ghost use Rattle.hare.specs.Shown.{shown};
-ghost use Rattle.hare.specs.Steps.{AreShort, IsOutcome, IsWholeOutcome};
+//! The refactorings, as steps of a session. Another one is another arm of `is_built` and of `take`.
+ghost use Rattle.std.specs.Prelude.{◌≡◌, Unit, not, is_some};
+ghost use Rattle.hr_why.specs.Numbers.{number_of};
 
-use crate::words::Renaming;
-use hr_base::{Seq, Text};
-use hr_check::{LoadError, Project, check};
+use hr_base::Text;
+use hr_check::Project;
 use hr_finish::rename;
-use hr_plain::{load, rename as rename_plain};
+use hr_script::Command;
+use hr_session::Stepper;
 use hr_why::Why;
 use std::alloc::{AllocError, Global};
 
-/// What became of the command in memory.
-#[derive(Drop)]
-pub enum Step {
-    Renamed(Seq<Text>),
-    NotAccepted(LoadError),
-    Refused(Why),
+/// What carries out the commands that are built.
+pub struct Refactorings;
+
+/// Whether the command can be run; one that can't is a line that isn't of the language.
+pub fn is_built(command: &Command) -> bool {
+    matches!(command, Command::Rename { .. } | Command::Undo)
 }
 
-/// The renaming of the project that the texts are. Where they are one text of the plain form in which it is accepted,
-/// it is carried out there.
-pub fn take_step(alloc: Global, command: Renaming<'_>, texts: &[Text]) -> Result<Step, AllocError>
-    requires { AreShort texts.now }
-    ensures { IfOk result (IsOutcome (shown command.entry) texts.now) }
-{
-    let project = match check(alloc, texts) {
-        Ok(project) => project,
-        Err(error) => return Ok(Step::NotAccepted(error)),
-    };
-    match plain_step(alloc, command, texts)? {
-        Some(new) => {
-            let list = vec![in alloc; new]?;
-            Ok(Step::Renamed(Seq { list }))
+impl Stepper<Project, Why> for Refactorings {
+    ghost takes = { λ _ _ _ _. Unit {0} };
+
+    ghost refuses = { λ _ _ _ _. Unit {0} };
+
+    ghost is_memory = { λ why. not (is_some (number_of why)) };
+
+    fn take(&self, alloc: Global, project: &Project, command: &Command) -> Result<Project, Why> {
+        match command {
+            Command::Rename { module, pos, new } => {
+                let step = rename(alloc, project, str_of(module)?, *pos, str_of(new)?)?;
+                Ok(step.project)
+            }
+            _ => Err(Why::Memory(AllocError)),
         }
-        None => whole_step(alloc, command, &project),
+    }
+
+    fn wants_memory(why: &Why) -> bool {
+        why.number().is_none()
+    }
+
+    fn memory(error: AllocError) -> Why {
+        Why::Memory(error)
     }
 }
 
-/// The text in which the renaming is carried out, if the texts are one of the plain form and it is accepted there.
-fn plain_step(
-    alloc: Global,
-    command: Renaming<'_>,
-    texts: &[Text],
-) -> Result<Option<Text>, AllocError>
-    requires { AreShort texts.now }
-    ensures { IfOk result (λ found. MatchOption found (IsNoPlainStep (shown command.entry) texts.now) (λ new. IsStep (shown command.entry) texts.now (new ∷ []))) }
-{
-    let [text] = texts else {
-        return Ok(None);
-    };
-    let tree = match load(alloc, text.as_slice()) {
-        Ok(tree) => tree,
-        Err(error) => {
-            return match error.number() {
-                Some(_) => Ok(None),
-                None => Err(AllocError),
-            };
-        }
-    };
-    let module = Text::from_slice(alloc, command.module.as_bytes())?;
-    let new = Text::from_slice(alloc, command.new.as_bytes())?;
-    match rename_plain(alloc, &tree, &module, command.pos, &new) {
-        Ok(text) => Ok(Some(text)),
-        Err(why) => match why.number() {
-            Some(_) => Ok(None),
-            None => Err(AllocError),
-        },
+/// The text of a word of a script, which is always in UTF-8.
+fn str_of(text: &Text) -> Result<&str, Why> {
+    match std::str::from_utf8(text.as_slice()) {
+        Ok(text) => Ok(text),
+        Err(_) => Err(Why::Memory(AllocError)),
     }
-}
-
-/// The renaming in the whole project.
-fn whole_step(alloc: Global, command: Renaming<'_>, project: &Project) -> Result<Step, AllocError>
-    ensures { IfOk result (IsWholeOutcome project.now) }
-{
-    match rename(alloc, project, command.module, command.pos, command.new) {
-        Ok(step) => Ok(Step::Renamed(copies(alloc, step.project.texts())?)),
-        Err(why) => Ok(Step::Refused(why)),
-    }
-}
-
-fn copies(alloc: Global, texts: &[Text]) -> Result<Seq<Text>, AllocError>
-    ensures { IfOk result (λ list. list ≡ texts.now) }
-{
-    let mut list = Vec::new(alloc);
-    for text in texts {
-        list.push(text.clone()?)?;
-    }
-    Ok(Seq { list })
 }

@@ -1,10 +1,18 @@
 -- A run goes on by a command, ends behind the last one, or stops at a line.
-use Rattle.std.proofs.Common.{◌≡◌, ℕ, ◌+◌, ◌<◌, ◌≤◌, Bool, true, false, List, [], ◌∷◌, ◌++◌, length, take, drop, get_or, refl, sym, ap, subst, ◌∙◌, add-one, drop-cons, append_assoc, append-nil}
+use Rattle.std.proofs.Common.{◌≡◌, ℕ, ◌+◌, ◌<◌, ◌≤◌, Bool, true, false, List, [], ◌∷◌, ◌++◌, length, take, drop, get_or, refl, sym, ap, subst, not, ◌∙◌, add-one, drop-cons, append_assoc, append-nil}
 use Rattle.std.proofs.lemmas.List.{take-append-drop, take_more}
 use Rattle.hr_script.specs.declared.command.Command.{Command}
 use Rattle.hr_session.specs.declared.line.Line.{Line}
 use Rattle.hr_session.specs.Runs.{State, Carries, Runs, StandsWithin, goes_on, tells_memory}
 use Rattle.hr_session.specs.Runs.Runs.{ends, goes, stops}
+
+pub goes_yet : (b : Bool) → not b ≡ false → b ≡ true
+goes_yet true e = refl
+goes_yet false e = sym e
+
+pub ends_it : (b : Bool) → not b ≡ true → b ≡ false
+ends_it true e = sym e
+ends_it false e = refl
 
 -- what comes up to the place of x is what comes before it, and x
 up_to : {X : Type 0} (xs : List X) (place : ℕ) (x : X) → place < length xs → x ≡ get_or xs place x → take (place + 1) xs ≡ take place xs ++ x ∷ []

@@ -94,10 +94,14 @@ impl<P: Drop> Session<P> {
         if let Err(error) = self.history.reserve() {
             return Err(S::memory(error));
         }
-        let next = stepper.take(alloc, &self.project, command)?;
-        let old = mem::replace(&mut self.project, next);
-        self.history.push(old);
-        Ok(Report::Done)
+        match stepper.take(alloc, &self.project, command) {
+            Ok(next) => {
+                let old = mem::replace(&mut self.project, next);
+                self.history.push(old);
+                Ok(Report::Done)
+            }
+            Err(why) => Err(why),
+        }
     }
 
     /// Carries out commands one after another, up to the first that is refused, or all of them.
