@@ -1,6 +1,0 @@
-pub mod Ends
-pub mod OneTarget
-pub mod OneTree
-pub mod PlainSteps
-pub mod Ready
-pub mod Reports

@@ -168,5 +168,13 @@ fn run_project<S: Shelf, K: Sink>(
         let report = report::changed(alloc, lines, request.files.as_slice(), changes.as_slice())?;
         return Ok(tell(out, report.as_slice(), Status::Done));
     }
-    replace(alloc, request.files.as_slice(), lines, texts, news, shelf, out)
+    replace(
+        alloc,
+        request.files.as_slice(),
+        lines,
+        texts,
+        news,
+        shelf,
+        out,
+    )
 }

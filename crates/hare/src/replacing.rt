@@ -2,7 +2,7 @@
 use crate::report;
 use crate::status::Status;
 use crate::telling::tell;
-use hr_base::{Seq, Text};
+use hr_base::Text;
 use hr_files::{Change, changes, replace_files, roll_back};
 use hr_shelf::{Shelf, Sink};
 use std::alloc::{AllocError, Global};
@@ -24,28 +24,21 @@ pub fn replace<S: Shelf, K: Sink>(
     let mut fault = lines.clone()?;
     fault.reserve(report::fault_room(files, forth.as_slice()))?;
     let done = report::changed(alloc, lines, files, forth.as_slice())?;
-    let numbers = numbers(alloc, forth.as_slice())?;
     match replace_files(shelf, files, forth) {
         Ok(()) => Ok(tell(out, done.as_slice(), Status::Done)),
         Err(refused) => {
-            let file = number_at(numbers.as_slice(), refused);
-            take_back(shelf, files, refused, back, stayed, file, &mut fault);
+            take_back(shelf, files, refused, back, stayed, &mut fault);
             Ok(tell(out, fault.as_slice(), Status::WriteFault))
         }
     }
 }
 
-/// The numbers of the files that change.
-fn numbers(alloc: Global, changes: &[Change]) -> Result<Seq<usize>, AllocError> {
-    let mut list = Vec::new(alloc);
-    for change in changes {
-        list.push(change.file)?;
+/// The number of the file of that change.
+fn file_at(changes: &[Change], change: usize) -> usize {
+    match changes.get(change) {
+        Some(change) => change.file,
+        None => 0,
     }
-    Ok(Seq { list })
-}
-
-fn number_at(numbers: &[usize], change: usize) -> usize {
-    numbers.get(change).copied().unwrap_or(0)
 }
 
 /// Gives the files before the refused change their old bytes, and reports which file could not be replaced and what
@@ -56,9 +49,9 @@ fn take_back<S: Shelf>(
     refused: usize,
     mut back: Vec<Change>,
     mut stayed: Vec<usize>,
-    file: usize,
     fault: &mut Vec<u8>,
 ) {
+    let file = file_at(back.as_slice(), refused);
     back.truncate(refused);
     roll_back(shelf, files, back, &mut stayed);
     report::add_fault(fault, files, file, stayed.as_slice());

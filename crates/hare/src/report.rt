@@ -119,7 +119,9 @@ pub fn changed(
 }
 
 const WRITE_FAULT: &str = "write fault: ";
+
 const ROLLED_BACK: &str = "rolled back";
+
 const NOT_ROLLED_BACK: &str = "not rolled back: ";
 
 /// As many bytes as `add_fault` adds at most, whichever of these changes is refused, and whatever then stays.

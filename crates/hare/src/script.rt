@@ -46,7 +46,7 @@ fn commands_of(alloc: Global, bytes: &[u8]) -> Result<Seq<Command>, Unscripted> 
             Err(ScriptError::Memory(_)) => Err(Unscripted::Memory),
         },
         Ok(Some(number)) => Err(Unscripted::BadLine(number)),
-        Err(AllocError) => Err(Unscripted::Memory),
+        Err(_) => Err(Unscripted::Memory),
     }
 }
 

@@ -1,5 +1,5 @@
 //! The refactorings, as steps of a session. Another one is another arm of `is_built` and of `take`.
-ghost use Rattle.std.specs.Prelude.{◌≡◌, Unit, not, is_some};
+ghost use Rattle.std.specs.Prelude.{not, is_some};
 ghost use Rattle.hr_why.specs.Numbers.{number_of};
 
 use hr_base::Text;

@@ -1,8 +1,3 @@
-ghost use Rattle.std.specs.Prelude.{◌≡◌, ◌+◌, ◌<◌, ◌≤◌, ◌-◌, [], All, length, map, take, vec_capacity, vec_len};
-ghost use Rattle.std.specs.String.{string_bytes};
-ghost use Rattle.hr_files.specs.Replaced.{IsReadyChange};
-ghost use Rattle.hr_files.specs.RolledBack.{IsRolledBack};
-
 use crate::Change;
 use hr_base::Seq;
 use hr_shelf::{Failed, Shelf};
