@@ -1,3 +1,8 @@
+ghost use Rattle.std.specs.Prelude.{◌≡◌, ◌+◌, ◌≤◌, [], All, length, map, vec_capacity};
+ghost use Rattle.std.specs.String.{string_bytes};
+ghost use Rattle.hr_files.specs.Replaced.{IsReadyChange};
+ghost use Rattle.hr_files.specs.RolledBack.{RollsBack, RoseBy};
+
 use crate::Change;
 use hr_base::Seq;
 use hr_shelf::{Failed, Shelf};
@@ -10,7 +15,15 @@ pub fn roll_back<S: Shelf>(
     names: &[String],
     mut changes: Vec<Change>,
     stayed: &mut Vec<usize>,
-) {
+)
+    requires ready { All (IsReadyChange (S.store shelf.old).ready (map string_bytes names.now)) changes.items }
+    requires none { stayed.old.items ≡ [] }
+    requires room { length changes.items ≤ vec_capacity stayed.old }
+    ensures puts { RollsBack (map string_bytes names.now) (S.store shelf.old).told changes.entry.items stayed.new.items (S.store shelf.new).told }
+    ensures cause { RoseBy (length stayed.new.items) (S.store shelf.old).replace_faults (S.store shelf.new).replace_faults }
+    ensures reads { (S.store shelf.new).read_faults ≡ (S.store shelf.old).read_faults }
+    ensures counted { (S.store shelf.new).calls ≤ (S.store shelf.old).calls + length changes.entry.items }
+{
     while let Some(Change { file, bytes }) = changes.pop() {
         let Seq { list } = bytes;
         match shelf.replace(names[file].as_str(), list) {

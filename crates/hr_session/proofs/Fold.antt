@@ -1,10 +1,16 @@
 -- A run goes on by a command, ends behind the last one, or stops at a line.
 use Rattle.std.proofs.Common.{◌≡◌, ℕ, ◌+◌, ◌<◌, ◌≤◌, Bool, true, false, List, [], ◌∷◌, ◌++◌, length, take, drop, get_or, refl, sym, ap, subst, not, ◌∙◌, add-one, drop-cons, append_assoc, append-nil}
 use Rattle.std.proofs.lemmas.List.{take-append-drop, take_more}
+use Rattle.std.specs.Prelude.{Result, Ok, Err, OnErr}
 use Rattle.hr_script.specs.declared.command.Command.{Command}
 use Rattle.hr_session.specs.declared.line.Line.{Line}
 use Rattle.hr_session.specs.Runs.{State, Carries, Runs, StandsWithin, goes_on, tells_memory}
 use Rattle.hr_session.specs.Runs.Runs.{ends, goes, stops}
+
+-- what holds anyway, holds of an error
+pub told_err : {A B : Type 0} {P : Type 0} (r : Result A B) → P → OnErr r P
+told_err (Ok x) p = tt
+told_err (Err e) p = p
 
 pub goes_yet : (b : Bool) → not b ≡ false → b ≡ true
 goes_yet true e = refl
