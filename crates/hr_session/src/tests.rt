@@ -1,4 +1,4 @@
-ghost use Rattle.std.specs.Prelude.{◌≡◌, ◌+◌, true, false};
+ghost use Rattle.std.specs.Prelude.{◌≡◌, ◌+◌};
 
 use crate::{Session, Stepper};
 use hr_base::{Pos, Text};
@@ -9,36 +9,28 @@ use std::test::Fail;
 /// Counts up to 3.
 struct Counter;
 
-#[derive(Debug, Drop)]
-enum Why {
-    Full,
-    Memory(AllocError),
-}
-
-impl Stepper<u32, Why> for Counter {
+/// A refusal says whether it is want of memory.
+impl Stepper<u32, bool> for Counter {
     ghost takes = { λ _ p _ q. q ≡ p + 1 };
 
     ghost refuses = { λ _ _ _ _. Unit {0} };
 
-    ghost is_memory = { elim [ Why.Full ↦ false | Why.Memory _ ↦ true ] };
+    ghost is_memory = { λ why. why };
 
-    fn take(&self, _alloc: Global, project: &u32, _command: &Command) -> Result<u32, Why> {
+    fn take(&self, _alloc: Global, project: &u32, _command: &Command) -> Result<u32, bool> {
         if *project < 3 {
             Ok(*project + 1)
         } else {
-            Err(Why::Full)
+            Err(false)
         }
     }
 
-    fn wants_memory(why: &Why) -> bool {
-        match why {
-            Why::Full => false,
-            Why::Memory(_) => true,
-        }
+    fn wants_memory(why: &bool) -> bool {
+        *why
     }
 
-    fn memory(error: AllocError) -> Why {
-        Why::Memory(error)
+    fn memory(_error: AllocError) -> bool {
+        true
     }
 }
 
