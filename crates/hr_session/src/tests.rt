@@ -41,8 +41,8 @@ fn demote(alloc: Global) -> Result<Command, AllocError> {
     })
 }
 
-/// Each command as `+` for a step or `-` for `undo`; the lines as `+`, `-`, `0` where there was
-/// nothing to take back, and `!` for a refusal; then the project and the depth.
+/// What a script leaves, in which a `+` is a step and a `-` is `undo`: the number of lines, whether
+/// the run ended at a refusal, the project, and how many steps can be taken back.
 fn ran(alloc: Global, script: &str, keep_going: bool) -> Result<String, Fail> {
     let mut commands = Vec::new(alloc);
     for c in script.chars() {
