@@ -1,9 +1,9 @@
 //! The drafts that edits make.
 
 use crate::Edit;
-use crate::plan::{Slot, plan};
-use hr_base::{Item, Lexeme, Seq, Spot};
-use hr_draft::{Draft, Drafted, Manner, Origin};
+use crate::building::{Noted, noted_draft};
+use hr_base::{Item, Seq};
+use hr_draft::Draft;
 use hr_tree::{Module, items};
 use std::alloc::{AllocError, Global};
 
@@ -19,13 +19,31 @@ pub fn apply(alloc: Global, modules: &[Module], edits: &[Edit]) -> Result<Seq<Dr
     Ok(Seq { list: drafts })
 }
 
+/// The same drafts, with where their new lexemes come from.
+pub fn apply_noted(
+    alloc: Global,
+    modules: &[Module],
+    edits: &[Edit],
+) -> Result<Vec<Noted>, AllocError> {
+    let mut drafts = Vec::new(alloc);
+    for (module, tree) in modules.iter().enumerate() {
+        if edits.iter().any(|edit| edit.module() == module) {
+            let old = items(alloc, tree)?;
+            drafts.push(noted_draft(alloc, module, old.list.as_slice(), edits)?)?;
+        }
+    }
+    Ok(drafts)
+}
+
 impl Edit {
     /// The module that the edit changes.
     fn module(&self) -> usize {
         match self {
             Edit::Respell { spot, .. } => spot.module,
             Edit::Insert { before, .. } => before.module,
+            Edit::Append { behind, .. } => behind.module,
             Edit::Remove { from, .. } => from.module,
+            Edit::Carry { from, .. } => from.module,
         }
     }
 }
@@ -37,85 +55,6 @@ pub fn draft_of(
     items: &[Item],
     edits: &[Edit],
 ) -> Result<Draft, AllocError> {
-    let slots = plan(alloc, module, items.len(), edits)?;
-    let mut list = Vec::with_capacity(alloc, items.len())?;
-    for (number, slot) in slots.as_slice().iter().enumerate() {
-        add_inserted(&mut list, slot, edits)?;
-        if let Some(item) = items.get(number) {
-            let spot = Spot {
-                module,
-                item: number,
-            };
-            add_kept(&mut list, spot, item, slot, edits)?;
-        }
-    }
-    Ok(Draft {
-        module,
-        lexemes: Seq { list },
-        gone: Seq {
-            list: Vec::new(alloc),
-        },
-    })
-}
-
-/// Adds what the edits of the slot put in.
-fn add_inserted(list: &mut Vec<Drafted>, slot: &Slot, edits: &[Edit]) -> Result<(), AllocError> {
-    for number in slot.inserts.as_slice() {
-        if let Some(
-            Edit::Insert {
-                lexemes,
-                manner,
-                ..
-            },
-        ) = edits.get(*number)
-        {
-            add_new(list, lexemes.as_slice(), *manner)?;
-        }
-    }
-    Ok(())
-}
-
-/// Adds the lexemes that one edit puts in.
-fn add_new(list: &mut Vec<Drafted>, lexemes: &[Lexeme], manner: Manner) -> Result<(), AllocError> {
-    let mut first = true;
-    for lexeme in lexemes {
-        list.push(Drafted {
-            lexeme: lexeme.clone()?,
-            origin: Origin::New,
-            manner: Some(manner),
-            first,
-        })?;
-        first = false;
-    }
-    Ok(())
-}
-
-/// Adds the old lexeme, unless it goes.
-fn add_kept(
-    list: &mut Vec<Drafted>,
-    spot: Spot,
-    item: &Item,
-    slot: &Slot,
-    edits: &[Edit],
-) -> Result<(), AllocError> {
-    if slot.removed {
-        return Ok(());
-    }
-    let lexeme = respelled(item, slot, edits)?;
-    list.push(Drafted {
-        lexeme,
-        origin: Origin::Kept(spot),
-        manner: None,
-        first: false,
-    })?;
-    Ok(())
-}
-
-/// The lexeme of the item, or the one that an edit gives it.
-fn respelled(item: &Item, slot: &Slot, edits: &[Edit]) -> Result<Lexeme, AllocError> {
-    let edit = slot.respelled.and_then(|number| edits.get(number));
-    match edit {
-        Some(Edit::Respell { lexeme, .. }) => lexeme.clone(),
-        _ => item.lexeme.clone(),
-    }
+    let Noted { draft, sources: _ } = noted_draft(alloc, module, items, edits)?;
+    Ok(draft)
 }

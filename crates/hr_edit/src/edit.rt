@@ -10,8 +10,15 @@ pub enum Edit {
         spot: Spot,
         lexeme: Lexeme,
     },
+    /// Lexemes are put before one, and go along with it where it is carried.
     Insert {
         before: Spot,
+        lexemes: Seq<Lexeme>,
+        manner: Manner,
+    },
+    /// Lexemes are put directly behind one, and go along with it where it is carried.
+    Append {
+        behind: Spot,
         lexemes: Seq<Lexeme>,
         manner: Manner,
     },
@@ -19,5 +26,13 @@ pub enum Edit {
     Remove {
         from: Spot,
         to: Spot,
+    },
+    /// The lexemes, both ends among them, are carried to another place of their module, where no lexeme is carried
+    /// away. Those that are removed are left out.
+    Carry {
+        from: Spot,
+        to: Spot,
+        before: Spot,
+        manner: Manner,
     },
 }

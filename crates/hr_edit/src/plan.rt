@@ -3,12 +3,14 @@
 use crate::Edit;
 use std::alloc::{AllocError, Global};
 
-/// What edits do at a lexeme or at the end of a module: the numbers of those that put lexemes before it,
-/// whether it goes, and the number of the one that respells it.
+/// What edits do at a lexeme or at the end of a module: the numbers of those that put lexemes before it and behind
+/// it, whether it goes or is carried away, and the number of the one that respells it.
 #[derive(Drop)]
 pub struct Slot {
     pub inserts: Vec<usize>,
+    pub appends: Vec<usize>,
     pub removed: bool,
+    pub carried: bool,
     pub respelled: Option<usize>,
 }
 
@@ -39,7 +41,9 @@ impl Slot {
     fn empty(alloc: Global) -> Slot {
         Slot {
             inserts: Vec::new(alloc),
+            appends: Vec::new(alloc),
             removed: false,
+            carried: false,
             respelled: None,
         }
     }
@@ -59,14 +63,34 @@ fn note_edit(
             }
         }
         Edit::Insert { before, .. } if before.module == module => {
-            if let Some(slot) = slots.get_mut(before.item) {
-                slot.inserts.push(number)?;
+            note_insert(slots, before.item, number)?;
+        }
+        Edit::Append { behind, .. } if behind.module == module => {
+            if let Some(slot) = slots.get_mut(behind.item) {
+                slot.appends.push(number)?;
             }
         }
         Edit::Remove { from, to } if from.module == module => {
             mark_removed(slots, from.item, to.item);
         }
+        Edit::Carry {
+            from,
+            to,
+            before,
+            ..
+        } if from.module == module => {
+            mark_carried(slots, from.item, to.item);
+            note_insert(slots, before.item, number)?;
+        }
         _ => {}
+    }
+    Ok(())
+}
+
+/// Notes that the edit of the number puts something before the lexeme.
+fn note_insert(slots: &mut [Slot], item: usize, number: usize) -> Result<(), AllocError> {
+    if let Some(slot) = slots.get_mut(item) {
+        slot.inserts.push(number)?;
     }
     Ok(())
 }
@@ -76,6 +100,15 @@ fn mark_removed(slots: &mut [Slot], from: usize, to: usize) {
     for item in from..slots.len().min(to.saturating_add(1)) {
         if let Some(slot) = slots.get_mut(item) {
             slot.removed = true;
+        }
+    }
+}
+
+/// Notes that the lexemes are carried away.
+fn mark_carried(slots: &mut [Slot], from: usize, to: usize) {
+    for item in from..slots.len().min(to.saturating_add(1)) {
+        if let Some(slot) = slots.get_mut(item) {
+            slot.carried = true;
         }
     }
 }

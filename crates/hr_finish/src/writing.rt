@@ -48,6 +48,7 @@ fn printed(alloc: Global, tree: &Module, draft: &Draft) -> Result<Option<Text>, 
         items: items.list.as_slice(),
         tail: &items.tail,
         spans: blocks.spans.as_slice(),
+        parts: blocks.parts.as_slice(),
     };
     match print_within(alloc, &old, draft, MODULE_LIMIT)? {
         Some(bytes) => Ok(Some(Text::from_vec(bytes)?)),

@@ -3,9 +3,12 @@
 
 mod apart;
 mod blanks;
+mod cuts;
 mod fates;
+mod frames;
 mod gaps;
 mod indent;
+mod lines;
 mod old;
 mod page;
 mod print;

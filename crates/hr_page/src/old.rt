@@ -1,5 +1,5 @@
-use hr_base::{Item, Text};
-use hr_draft::BlockSpan;
+use hr_base::{Class, Item, Text};
+use hr_draft::{BlockSpan, PartSpan};
 
 /// A byte order mark, which stands before a module's first trivia.
 const MARK: &[u8] = b"\xEF\xBB\xBF";
@@ -8,13 +8,14 @@ const CARRIAGE_RETURN: u8 = b'\r';
 
 const FORM_FEED: u8 = 0x0C;
 
-/// A module before the step, as lists: its lexemes, what stands behind the last one, and its blocks in the
-/// order of their openings.
+/// A module before the step, as lists: its lexemes, what stands behind the last one, its blocks in the order of their
+/// openings, and their parts.
 #[derive(Clone, Copy)]
 pub struct Old<'a> {
     pub items: &'a [Item],
     pub tail: &'a Text,
     pub spans: &'a [BlockSpan],
+    pub parts: &'a [PartSpan],
 }
 
 impl<'a> Old<'a> {
@@ -39,6 +40,23 @@ impl<'a> Old<'a> {
             without_mark(self.tail.as_slice())
         } else {
             self.tail.as_slice()
+        }
+    }
+
+    /// The trivia of a lexeme, or what stands behind the last one.
+    pub fn trivia_or_tail(&self, item: usize) -> &'a [u8] {
+        if item < self.items.len() {
+            self.trivia(item)
+        } else {
+            self.tail()
+        }
+    }
+
+    /// Whether the lexeme is this bracket or separator.
+    pub fn is_special(&self, item: usize, text: &[u8]) -> bool {
+        match self.items.get(item) {
+            Some(item) => item.lexeme.class == Class::Special && item.lexeme.text.is(text),
+            None => false,
         }
     }
 

@@ -7,6 +7,7 @@ use crate::old::Old;
 use crate::page::Page;
 use hr_base::Lexeme;
 use hr_draft::{Draft, Drafted};
+use hr_rules::Reached;
 use std::alloc::{AllocError, Global};
 
 /// The bytes of the draft, or none where there are more than so many.
@@ -18,7 +19,15 @@ pub fn print_within(
 ) -> Result<Option<Vec<u8>>, AllocError> {
     let fates = fates(alloc, old.items.len(), target)?;
     let Gaps { list, tail } = gaps_of(alloc, old, fates.as_slice(), target)?;
-    let mut page = Page::new(alloc, old.spans, fates.as_slice(), old.newline());
+    let begins = part_begins(alloc, old)?;
+    let columns = columns_of(alloc, old)?;
+    let mut page = Page::new(
+        alloc,
+        old,
+        fates.as_slice(),
+        begins.as_slice(),
+        columns.as_slice(),
+    );
     page.write(old.mark())?;
     let lexemes = target.lexemes.as_slice();
     let mut before: Option<&Lexeme> = None;
@@ -96,18 +105,36 @@ fn write_lexeme(
     limit: usize,
 ) -> Result<bool, AllocError> {
     let trivia = gap.trivia.as_slice();
-    let indent = match gap.place {
-        Some(item) => page.place(item, trivia, is_first),
-        None => None,
-    };
-    match indent {
+    let is_semicolon = lexeme.text.is(b";");
+    match page.indent(gap, is_first, is_semicolon)? {
         Some(indent) if indent.spaces > limit as u64 => return Ok(false),
         Some(indent) => page.write_indented(trivia, indent)?,
         None => page.write(trivia)?,
     }
-    if let Some(item) = gap.place {
-        page.enter(item)?;
-    }
+    page.enter(gap)?;
     page.write(lexeme.text.as_slice())?;
     Ok(true)
+}
+
+/// For each old lexeme the block of the part that it begins.
+fn part_begins(alloc: Global, old: &Old) -> Result<Vec<Option<usize>>, AllocError> {
+    let mut begins = vec![in alloc; None; old.items.len()]?;
+    for part in old.parts {
+        if let Some(block) = begins.get_mut(part.from) {
+            *block = Some(part.block);
+        }
+    }
+    Ok(begins)
+}
+
+/// The columns of the old lexemes.
+fn columns_of(alloc: Global, old: &Old) -> Result<Vec<u64>, AllocError> {
+    let mut columns = Vec::with_capacity(alloc, old.items.len())?;
+    let mut reached = Reached::origin();
+    for item in old.items {
+        reached = reached.behind(item.trivia.as_slice());
+        columns.push(reached.col)?;
+        reached = reached.behind(item.lexeme.text.as_slice());
+    }
+    Ok(columns)
 }

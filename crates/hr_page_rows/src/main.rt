@@ -88,6 +88,7 @@ fn written(
         items: items.list.as_slice(),
         tail: &items.tail,
         spans,
+        parts: &[],
     };
     let Some(bytes) = print_within(alloc, &old, draft, LIMIT)? else {
         return String::from_str(alloc, "too long");

@@ -23,6 +23,7 @@ pub fn print(alloc: Global, old: &[Module], target: &Draft) -> Result<Vec<u8>, A
         items: items.list.as_slice(),
         tail: &items.tail,
         spans: blocks.spans.as_slice(),
+        parts: blocks.parts.as_slice(),
     };
     match print_within(alloc, &old, target, usize::MAX)? {
         Some(bytes) => Ok(bytes),
