@@ -9,7 +9,8 @@ mod walk;
 
 pub use blocks::blocks_of;
 pub use counts::{
-    construction_len, constructions_len, constructor_len, maybe_len, maybe_operator_len,
+    construction_len, constructions_len, constructor_len, left_side_len, maybe_len,
+    maybe_operator_len,
     operator_len, operators_len, pat_len, pats_len, ty_len, type_head_len, tys_len, variable_len,
     variables_len,
 };

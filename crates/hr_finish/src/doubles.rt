@@ -74,12 +74,14 @@ fn double_in(module: usize, first: usize, second: usize) -> Double {
 
 /// Whether the lexeme of the draft declared something before the step, or is new.
 fn declares(marks: &[Mark<'_>], drafted: &Drafted) -> bool {
-    match drafted.origin {
-        Origin::Kept(spot) => match marks.get(spot.item) {
-            Some(mark) => matches!(mark.role, Role::Declares(_)),
-            None => false,
-        },
-        _ => true,
+    let spot = match drafted.origin {
+        Origin::Kept(spot) => spot,
+        Origin::Carried(spot) => spot,
+        Origin::New => return true,
+    };
+    match marks.get(spot.item) {
+        Some(mark) => matches!(mark.role, Role::Declares(_)),
+        None => false,
     }
 }
 

@@ -68,7 +68,7 @@ fn judged(alloc: Global, trial: Trial, texts: &[Text]) -> Result<Option<Why>, Al
 }
 
 /// What the modules export and see, whether or not that is accepted.
-fn interfaces_of(alloc: Global, modules: &[Module]) -> Result<Interfaces, AllocError> {
+pub fn interfaces_of(alloc: Global, modules: &[Module]) -> Result<Interfaces, AllocError> {
     let names = names(alloc, modules)?;
     let edges = edges(alloc, modules, names.as_slice())?;
     match order(alloc, names.as_slice(), edges.as_slice()) {
@@ -78,7 +78,7 @@ fn interfaces_of(alloc: Global, modules: &[Module]) -> Result<Interfaces, AllocE
 }
 
 /// The first two lexemes that declare one spelling, where no name before them stands for nothing or for two things.
-fn declared_twice(
+pub fn declared_twice(
     alloc: Global,
     modules: &[Module],
     interfaces: &Interfaces,

@@ -8,7 +8,7 @@ use hr_base::{Binder, Bound, Item, Place, Pos, Spot};
 use hr_draft::{Draft, Origin};
 use hr_outline::module_name;
 use hr_rules::Reached;
-use hr_step::{Rebound, binder_at};
+use hr_step::{Meaning, Rebound, Unmeant, binder_at};
 use hr_tables::Bindings;
 use hr_tree::{Module, items};
 use hr_why::Why;
@@ -34,6 +34,41 @@ pub fn rebinding(
     Ok(Why::WouldRebind {
         occ: place_of(alloc, modules, rebound.old)?,
         old: bound_of(alloc, modules, before)?,
+        new: after,
+    })
+}
+
+/// The refusal for a lexeme that would be bound otherwise than meant, which may be new. `place` is then the old lexeme
+/// whose place is shown; `meaning` is what it means, if that isn't the image of its old binder.
+pub fn unmeant_shown(
+    alloc: Global,
+    trial: Trial,
+    unmeant: Unmeant,
+    place: Option<Spot>,
+    meaning: Option<&Meaning>,
+    new: &Bindings,
+) -> Result<Why, AllocError> {
+    let modules = trial.old.modules();
+    let shown = unmeant.old.or(place);
+    let shown = shown.unwrap_or(origin_of(trial.drafts, unmeant.new));
+    let before = match meaning {
+        Some(Meaning::Image(binder)) => bound_of(alloc, modules, binder)?,
+        Some(Meaning::At(spot)) => match binder_at(new, *spot) {
+            Some(binder) => old_bound(alloc, trial, binder)?,
+            None => return Err(AllocError),
+        },
+        None => match unmeant.old.and_then(|spot| binder_at(trial.old.bindings(), spot)) {
+            Some(binder) => bound_of(alloc, modules, binder)?,
+            None => return Err(AllocError),
+        },
+    };
+    let after = match binder_at(new, unmeant.new) {
+        Some(after) => Some(old_bound(alloc, trial, after)?),
+        None => None,
+    };
+    Ok(Why::WouldRebind {
+        occ: place_of(alloc, modules, shown)?,
+        old: before,
         new: after,
     })
 }
@@ -75,12 +110,15 @@ fn origin_of(drafts: &[Draft], spot: Spot) -> Spot {
 fn nearest_kept(draft: &Draft, number: usize) -> Option<Spot> {
     let mut before = None;
     for (item, drafted) in draft.lexemes.as_slice().iter().enumerate() {
-        if let Origin::Kept(spot) = drafted.origin {
-            if item > number {
-                return before.or(Some(spot));
-            }
-            before = Some(spot);
+        let spot = match drafted.origin {
+            Origin::Kept(spot) => spot,
+            Origin::Carried(spot) => spot,
+            Origin::New => continue,
+        };
+        if item > number {
+            return before.or(Some(spot));
         }
+        before = Some(spot);
     }
     before
 }

@@ -9,3 +9,5 @@ mod thing;
 
 pub use plan::{Renaming, plan_rename};
 pub use scene::Scene;
+pub use spelling::{is_lexeme_of, respelled};
+pub use thing::{Thing, thing_at};
