@@ -12,7 +12,7 @@ use hr_base::{Seq, Text};
 use hr_blocks::blocks_of;
 use hr_check::{LoadError, Project, check, read_all};
 use hr_draft::Draft;
-use hr_edit::{Edit, Noted, apply_noted, footprint};
+use hr_edit::{Edit, Noted, Source, apply_noted, footprint};
 use hr_parse::ParseError;
 use hr_step::{
     Found, NameMap, are_blocks_placed, are_lexemes_read, does_trivia_stay, first_unmeant,
@@ -30,16 +30,7 @@ pub fn finish_meant(
     edits: &[Edit],
     names: Names,
 ) -> Result<Step, Why> {
-    let mut drafts = Vec::new(alloc);
-    let mut sources = Vec::new(alloc);
-    for noted in apply_noted(alloc, old.modules(), edits)? {
-        let Noted {
-            draft,
-            sources: list,
-        } = noted;
-        drafts.push(draft)?;
-        sources.push(list)?;
-    }
+    let (drafts, sources) = drafts_of(alloc, old, edits)?;
     let Some(texts) = written(alloc, old, drafts.as_slice())? else {
         return Err(Why::OverLimit);
     };
@@ -66,6 +57,27 @@ pub fn finish_meant(
         }
         Err(error) => Err(why_unmet(alloc, trial, &meant, texts.as_slice(), &error)),
     }
+}
+
+type Sources = Seq<Option<Source>>;
+
+/// The drafts of the edits, and where their new lexemes come from.
+fn drafts_of(
+    alloc: Global,
+    old: &Project,
+    edits: &[Edit],
+) -> Result<(Vec<Draft>, Vec<Sources>), AllocError> {
+    let mut drafts = Vec::new(alloc);
+    let mut sources = Vec::new(alloc);
+    for noted in apply_noted(alloc, old.modules(), edits)? {
+        let Noted {
+            draft,
+            sources: list,
+        } = noted;
+        drafts.push(draft)?;
+        sources.push(list)?;
+    }
+    Ok((drafts, sources))
 }
 
 /// Holds the checked target against the drafts and against what the names mean.

@@ -96,37 +96,64 @@ pub fn add_arguments(
     plan: &mut Plan,
 ) -> Result<(), Why> {
     let copy = copy_of(alloc, sheet, choice.atom.from, choice.atom.to)?;
-    let mut left = MODULE_LIMIT;
-    let size = size_of(&copy);
-    for item in uses {
-        let Some((from, to)) = use_range(sheet, *item) else {
-            continue;
-        };
-        wrap(alloc, sheet, from, plan)?;
-        let edit = plan.edits.len();
-        let mut list = Vec::new(alloc);
-        if choice.definition.equation_of(*item).is_some() {
-            list.push(variable(choice.name)?)?;
-            plan.new_names.push(NewName {
-                edit,
-                index: 0,
-                place: Some(sheet.spot(*item)),
-                purpose: parameter_in(choice.definition, first, *item),
-            })?;
-        } else {
-            left = match left.checked_sub(size) {
-                Some(left) => left,
-                None => return Err(Why::OverLimit),
-            };
-            add_copy(sheet, &copy, &mut list, edit, Some(*item), plan)?;
-        }
-        list.push(symbol(alloc, b")")?)?;
-        plan.edits.push(Edit::Append {
-            behind: sheet.spot(to),
-            lexemes: Seq { list },
-            manner: FOLLOWS,
-        })?;
+    let copies = uses
+        .iter()
+        .filter(|item| choice.definition.equation_of(**item).is_none())
+        .count();
+    if size_of(&copy).saturating_mul(copies) > MODULE_LIMIT {
+        return Err(Why::OverLimit);
     }
+    for item in uses {
+        if let Some((from, to)) = use_range(sheet, *item) {
+            wrap(alloc, sheet, from, plan)?;
+            let list = argument(alloc, sheet, choice, &copy, *item, first, plan)?;
+            close(alloc, sheet, to, list, plan)?;
+        }
+    }
+    Ok(())
+}
+
+/// The argument of a use.
+fn argument(
+    alloc: Global,
+    sheet: &Sheet<'_>,
+    choice: Choice,
+    copy: &Copied,
+    item: usize,
+    first: usize,
+    plan: &mut Plan,
+) -> Result<Vec<Lexeme>, AllocError> {
+    let edit = plan.edits.len();
+    let mut list = Vec::new(alloc);
+    if choice.definition.equation_of(item).is_none() {
+        add_copy(sheet, copy, &mut list, edit, Some(item), plan)?;
+        return Ok(list);
+    }
+    list.push(variable(choice.name)?)?;
+    plan.new_names.push(NewName {
+        edit,
+        index: 0,
+        place: Some(sheet.spot(item)),
+        purpose: parameter_in(choice.definition, first, item),
+    })?;
+    Ok(list)
+}
+
+/// Puts the argument and a parenthesis behind a use that ends with the lexeme.
+fn close(
+    alloc: Global,
+    sheet: &Sheet<'_>,
+    to: usize,
+    argument: Vec<Lexeme>,
+    plan: &mut Plan,
+) -> Result<(), AllocError> {
+    let mut list = argument;
+    list.push(symbol(alloc, b")")?)?;
+    plan.edits.push(Edit::Append {
+        behind: sheet.spot(to),
+        lexemes: Seq { list },
+        manner: FOLLOWS,
+    })?;
     Ok(())
 }
 

@@ -2,9 +2,7 @@ use crate::chosen::{atom_at, declaration_round, defined_by, refuse_mentions};
 use crate::edits::{Choice, add_arguments, add_parameter};
 use crate::exported::{add_everywhere, declare};
 use hr_base::{Binder, Class, Entity, Pos, Text};
-use hr_carrying::{
-    Plan, Target, fits_braces, infix_place, is_main, place_of, spot_place,
-};
+use hr_carrying::{Plan, Target, fits_braces, infix_place, is_main, place_of};
 use hr_outline::module_name;
 use hr_rename::{Scene, is_lexeme_of};
 use hr_sheet::{Definition, Sheet, has_fixity, uses_of};
@@ -105,26 +103,35 @@ fn refuse_infix(
     binder: &Binder,
     definition: &Definition,
 ) -> Result<(), Why> {
-    let mut sheets = Vec::new(alloc);
     for module in 0..scene.files.min(scene.modules.len()) {
         let other = Sheet::new(alloc, scene.modules, scene.bindings, module)?;
-        let mut items = uses_of(alloc, &other, binder)?;
-        if module == sheet.module {
-            for part in definition.equations.as_slice() {
-                if let Some(head) = part.head() {
-                    items.push(head)?;
-                }
-            }
-        }
-        let found = infix_place(&other, items.as_slice()).map(|item| other.spot(item));
-        sheets.push(other)?;
-        if let Some(spot) = found {
+        let items = occurrences(alloc, &other, sheet.module, binder, definition)?;
+        if let Some(item) = infix_place(&other, items.as_slice()) {
             return Err(Why::InfixUse {
-                place: spot_place(alloc, scene.modules, sheets.as_slice(), spot)?,
+                place: place_of(alloc, scene.modules, &other, item)?,
             });
         }
     }
     Ok(())
+}
+
+/// The lexemes of the module that use or define what the binder is.
+fn occurrences(
+    alloc: Global,
+    sheet: &Sheet<'_>,
+    home: usize,
+    binder: &Binder,
+    definition: &Definition,
+) -> Result<Vec<usize>, AllocError> {
+    let mut items = uses_of(alloc, sheet, binder)?;
+    if sheet.module == home {
+        for part in definition.equations.as_slice() {
+            if let Some(head) = part.head() {
+                items.push(head)?;
+            }
+        }
+    }
+    Ok(items)
 }
 
 fn generalised(

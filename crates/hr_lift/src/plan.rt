@@ -119,12 +119,7 @@ fn refuse_infix(
     free: &[usize],
     uses: &[usize],
 ) -> Result<(), Why> {
-    let mut items = Vec::from_slice(alloc, uses)?;
-    for part in definition.equations.as_slice() {
-        if let Some(head) = part.head() {
-            items.push(head)?;
-        }
-    }
+    let items = occurrences(alloc, definition, uses)?;
     let own = infix_place(sheet, items.as_slice());
     let local = infix_local(alloc, sheet, definition, free)?;
     let first = match (own, local) {
@@ -137,6 +132,21 @@ fn refuse_infix(
         }),
         None => Ok(()),
     }
+}
+
+/// The lexemes that use or define the definition.
+fn occurrences(
+    alloc: Global,
+    definition: &Definition,
+    uses: &[usize],
+) -> Result<Vec<usize>, AllocError> {
+    let mut items = Vec::from_slice(alloc, uses)?;
+    for part in definition.equations.as_slice() {
+        if let Some(head) = part.head() {
+            items.push(head)?;
+        }
+    }
+    Ok(items)
 }
 
 /// Why a signed definition that gets parameters isn't written: their types are not known.

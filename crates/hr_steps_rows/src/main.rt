@@ -41,15 +41,19 @@ fn stepped(alloc: Global, project: &Project, command: &[u8]) -> Result<String, A
     let Some(step) = step_of(alloc, project, command) else {
         return String::from_str(alloc, "no case");
     };
-    match step {
-        Ok(step) => changed(alloc, project, &step),
-        Err(Why::Memory(_)) => String::from_str(alloc, "torn"),
-        Err(why) => {
-            let line = shown(alloc, &why)?;
-            let line = str::from_utf8(line.as_slice()).unwrap_or("not UTF-8");
-            format!(in alloc; "refused {line}")
-        }
+    match &step {
+        Ok(step) => changed(alloc, project, step),
+        Err(why) => refused(alloc, why),
     }
+}
+
+fn refused(alloc: Global, why: &Why) -> Result<String, AllocError> {
+    if why.number().is_none() {
+        return String::from_str(alloc, "torn");
+    }
+    let line = shown(alloc, why)?;
+    let line = str::from_utf8(line.as_slice()).unwrap_or("not UTF-8");
+    format!(in alloc; "refused {line}")
 }
 
 fn step_of(alloc: Global, project: &Project, command: &str) -> Option<Result<Step, Why>> {
