@@ -9,6 +9,9 @@ use std::alloc::{AllocError, Global};
 pub struct Copied {
     pub lexemes: Seq<Lexeme>,
     pub origins: Vec<Option<usize>>,
+    /// The old lexeme with which the expression begins, and for each from there on its number in the copy.
+    from: usize,
+    numbers: Vec<usize>,
 }
 
 /// A bracket or separator.
@@ -62,6 +65,8 @@ pub fn copy_of(
             list: Vec::new(alloc),
         },
         origins: Vec::new(alloc),
+        from,
+        numbers: Vec::new(alloc),
     };
     for (item, beside) in (from..to).zip(beside.iter()) {
         if beside.opens {
@@ -70,6 +75,7 @@ pub fn copy_of(
         if beside.semicolon {
             copy.add(symbol(alloc, b";")?, None)?;
         }
+        copy.numbers.push(copy.lexemes.len())?;
         if !is_dropped(sheet, item) {
             if let Some(lexeme) = sheet.lexeme(item) {
                 copy.add(lexeme.clone()?, Some(item))?;
@@ -87,6 +93,12 @@ pub fn copy_of(
 }
 
 impl Copied {
+    /// The number in the copy of the old lexeme.
+    pub fn number_of(&self, item: usize) -> Option<usize> {
+        let offset = item.checked_sub(self.from)?;
+        self.numbers.get(offset).copied()
+    }
+
     fn add(&mut self, lexeme: Lexeme, origin: Option<usize>) -> Result<(), AllocError> {
         self.lexemes.list.push(lexeme)?;
         self.origins.push(origin)?;

@@ -27,14 +27,17 @@ pub fn carry_definition(
 ) -> Result<(), AllocError> {
     let mut cut = cut_semicolons(alloc, sheet, definition)?;
     let before = put_before(sheet, definition, cut.as_slice(), target.behind);
-    if let Some(item) = following_semicolon(sheet, definition, before) {
-        cut.push(item)?;
+    let following = following_semicolon(sheet, definition, before);
+    if let Some(slot) = following.and_then(|item| cut.get_mut(item)) {
+        *slot = true;
     }
-    for item in cut.as_slice() {
-        edits.push(Edit::Remove {
-            from: sheet.spot(*item),
-            to: sheet.spot(*item),
-        })?;
+    for (item, is_cut) in cut.as_slice().iter().enumerate() {
+        if *is_cut {
+            edits.push(Edit::Remove {
+                from: sheet.spot(item),
+                to: sheet.spot(item),
+            })?;
+        }
     }
     let mut is_first = target.first;
     for part in definition
@@ -54,11 +57,12 @@ pub fn carry_definition(
 pub fn put_before(
     sheet: &Sheet<'_>,
     definition: &Definition,
-    cut: &[usize],
+    cut: &[bool],
     behind: usize,
 ) -> usize {
     for item in behind..sheet.len() {
-        if !definition.has(item) && !cut.contains(&item) {
+        let is_cut = cut.get(item).copied().unwrap_or(false);
+        if !definition.has(item) && !is_cut {
             return item;
         }
     }

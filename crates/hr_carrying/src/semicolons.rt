@@ -3,14 +3,14 @@
 use hr_sheet::{Definition, Part, Sheet};
 use std::alloc::{AllocError, Global};
 
-/// The `;` that go with the parts of the definition: those between parts that stand together, and the ones that parted
+/// Which lexemes are `;` that go with the parts of the definition: those between parts that stand together, and the ones that parted
 /// them from their neighbours.
 pub fn cut_semicolons(
     alloc: Global,
     sheet: &Sheet<'_>,
     definition: &Definition,
-) -> Result<Vec<usize>, AllocError> {
-    let mut cut = Vec::new(alloc);
+) -> Result<Vec<bool>, AllocError> {
+    let mut cut = vec![in alloc; false; sheet.len()]?;
     let mut run: Option<(usize, usize)> = None;
     for part in sheet.parts.as_slice() {
         if !definition.has_part(part) {
@@ -19,19 +19,19 @@ pub fn cut_semicolons(
         run = match run {
             Some((from, to)) if are_semicolons(sheet, to, part.from) => {
                 for item in to..part.from {
-                    cut.push(item)?;
+                    mark(cut.as_mut_slice(), item);
                 }
                 Some((from, part.to))
             }
             Some((from, to)) => {
-                cut_round(sheet, definition, &mut cut, from, to)?;
+                cut_round(sheet, definition, cut.as_mut_slice(), from, to);
                 Some((part.from, part.to))
             }
             None => Some((part.from, part.to)),
         };
     }
     if let Some((from, to)) = run {
-        cut_round(sheet, definition, &mut cut, from, to)?;
+        cut_round(sheet, definition, cut.as_mut_slice(), from, to);
     }
     Ok(cut)
 }
@@ -44,10 +44,10 @@ fn are_semicolons(sheet: &Sheet<'_>, from: usize, to: usize) -> bool {
 fn cut_round(
     sheet: &Sheet<'_>,
     definition: &Definition,
-    cut: &mut Vec<usize>,
+    cut: &mut [bool],
     from: usize,
     to: usize,
-) -> Result<(), AllocError> {
+) {
     let block = definition.block;
     let before = from
         .checked_sub(1)
@@ -55,19 +55,22 @@ fn cut_round(
     let behind = sheet.is_semicolon_of(to, block) && (!sheet.is_first(from) || !sheet.is_first(to));
     if !sheet.is_first(from) {
         if let Some(item) = before {
-            cut.push(item)?;
-            return Ok(());
+            mark(cut, item);
+        } else if behind && goes_on_without(sheet, definition, to, false) {
+            mark(cut, to);
         }
-        if behind && goes_on_without(sheet, definition, to, false) {
-            cut.push(to)?;
-        }
-        return Ok(());
+        return;
     }
     let next = to.saturating_add(1);
     if behind && sheet.is_first(next) && goes_on_without(sheet, definition, to, before.is_some()) {
-        cut.push(to)?;
+        mark(cut, to);
     }
-    Ok(())
+}
+
+fn mark(cut: &mut [bool], item: usize) {
+    if let Some(slot) = cut.get_mut(item) {
+        *slot = true;
+    }
 }
 
 /// Whether the part that follows the `;` begins a part without it, or none follows.

@@ -224,11 +224,7 @@ pub fn add_copy(
 /// Where the copy has the lexeme that declares the binder.
 fn copied_at(sheet: &Sheet<'_>, copy: &Copied, binder: &Binder) -> Option<usize> {
     match binder {
-        Binder::Local(spot) if spot.module == sheet.module => copy
-            .origins
-            .as_slice()
-            .iter()
-            .position(|origin| *origin == Some(spot.item)),
+        Binder::Local(spot) if spot.module == sheet.module => copy.number_of(spot.item),
         _ => None,
     }
 }

@@ -54,7 +54,7 @@ pub fn infix_local(
 ) -> Result<Option<usize>, AllocError> {
     for part in definition.equations.as_slice() {
         for item in uses_in(alloc, sheet, *part)? {
-            let is_free = local_at(sheet, item).is_some_and(|local| free.contains(&local));
+            let is_free = local_at(sheet, item).is_some_and(|local| free.binary_search(&local).is_ok());
             let is_infix = use_range(sheet, item).is_none() && !is_in_section(sheet, item);
             if is_free && is_infix {
                 if let Some(binder) = sheet.binder(item) {

@@ -132,7 +132,7 @@ pub fn mean_parameters(
     for (equation, part) in definition.equations.as_slice().iter().enumerate() {
         for item in uses_in(alloc, sheet, *part)? {
             let number = local_at(sheet, item)
-                .and_then(|local| free.iter().position(|other| *other == local));
+                .and_then(|local| free.binary_search(&local).ok());
             if let Some(number) = number {
                 plan.old_names.push(OldName {
                     spot: sheet.spot(item),

@@ -2,7 +2,7 @@ use crate::emptied::{empty_block, is_emptied};
 use crate::free::{free_locals, infix_local};
 use crate::holder::{Holder, holder_of};
 use crate::parameters::{add_arguments, add_parameters, mean_parameters};
-use hr_base::{Binder, Pos, Text};
+use hr_base::{Binder, MODULE_LIMIT, Pos, Text};
 use hr_carrying::{
     Plan, Target, carry_definition, fits_braces, infix_place, place_of, simple_or_refused, value_at,
 };
@@ -96,6 +96,11 @@ fn lifted(
     let mut plan = Plan::new(alloc);
     if !free.is_empty() {
         let free = free.as_slice();
+        let places = uses.len().saturating_add(definition.equations.len());
+        let arguments = places.saturating_mul(free.len());
+        if arguments > MODULE_LIMIT {
+            return Err(Why::OverLimit);
+        }
         let parameters = add_parameters(alloc, sheet, definition, free, &mut plan)?;
         add_arguments(alloc, sheet, definition, free, uses.as_slice(), &parameters, &mut plan)?;
         mean_parameters(alloc, sheet, definition, free, &parameters, &mut plan)?;

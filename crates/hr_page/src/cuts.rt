@@ -167,6 +167,7 @@ impl Cuts {
         };
         let trivia = old.trivia(from);
         let start = self.at(from).from;
+        self.swallow_inside(old, fates, from, to);
         let ends = line_ends(alloc, trivia)?;
         let tail = self.swallow(alloc, old, fates, to)?;
         let behind = old.trivia_or_tail(tail);
@@ -209,6 +210,18 @@ impl Cuts {
             }
         }
         Ok(())
+    }
+
+    /// Notes the `;` that go between the parts of a run: what stands before them is written with the parts.
+    fn swallow_inside(&mut self, old: &Old, fates: &[Fate], from: usize, to: usize) {
+        for item in from..to {
+            if is_cut_semicolon(old, fates, item) {
+                if let Some(cut) = self.list.get_mut(item) {
+                    cut.swallowed = true;
+                    cut.from = old.trivia(item).len();
+                }
+            }
+        }
     }
 
     /// Notes the `;` that go behind a run which ends before the number. The answer is the number of the lexeme behind

@@ -60,6 +60,8 @@ struct Gathering<'a> {
     fates: &'a [Fate],
     cuts: &'a Cuts,
     newline: &'a [u8],
+    /// Which block each old lexeme opens.
+    openings: &'a [Option<usize>],
     /// The number behind the old lexemes that are passed.
     next: usize,
     /// Whether a removed lexeme that comes next is the first one of its run.
@@ -85,12 +87,14 @@ pub fn gaps_of(
     draft: &Draft,
 ) -> Result<Gaps, AllocError> {
     let cuts = cuts_of(alloc, old, fates, draft)?;
+    let openings = openings_of(alloc, old)?;
     let mut gathering = Gathering {
         alloc,
         old,
         fates,
         cuts: &cuts,
         newline: old.newline(),
+        openings: openings.as_slice(),
         next: 0,
         begins: true,
         saved: Vec::new(alloc),
@@ -497,12 +501,11 @@ impl<'a> Gathering<'a> {
 
     /// Where a part goes that is put into the block that the word opens.
     fn seat_in(&self, opening: Option<usize>) -> Seat {
-        for (block, span) in self.old.spans.iter().enumerate() {
-            if opening.is_none() || span.opening == opening {
-                return Seat::Part { block };
-            }
-        }
-        Seat::Part { block: 0 }
+        let block = match opening.and_then(|item| self.openings.get(item)) {
+            Some(block) => block.unwrap_or(0),
+            None => 0,
+        };
+        Seat::Part { block }
     }
 
     /// The block of the part that the old lexeme begins.
@@ -514,6 +517,17 @@ impl<'a> Gathering<'a> {
         }
         None
     }
+}
+
+/// For each old lexeme the block that it opens.
+fn openings_of(alloc: Global, old: &Old) -> Result<Vec<Option<usize>>, AllocError> {
+    let mut openings = vec![in alloc; None; old.items.len()]?;
+    for (block, span) in old.spans.iter().enumerate() {
+        if let Some(slot) = span.opening.and_then(|item| openings.get_mut(item)) {
+            *slot = Some(block);
+        }
+    }
+    Ok(openings)
 }
 
 /// The text without the blanks that it ends with.

@@ -18,27 +18,34 @@ pub struct Definition {
 impl Definition {
     /// Whether the lexeme stands in it.
     pub fn has(&self, item: usize) -> bool {
-        self.equations.as_slice().iter().any(|part| part.has(item))
-            || self.signature.is_some_and(|part| part.has(item))
+        self.equation_of(item).is_some() || self.signature.is_some_and(|part| part.has(item))
     }
 
     /// The number of the equation in which the lexeme stands.
     pub fn equation_of(&self, item: usize) -> Option<usize> {
-        self.equations
-            .as_slice()
-            .iter()
-            .position(|part| part.has(item))
+        let mut low = 0usize;
+        let mut high = self.equations.len();
+        for _ in 0..64 {
+            if low >= high {
+                return None;
+            }
+            let middle = low.saturating_add((high - low) / 2);
+            match self.equations.get(middle) {
+                Some(part) if part.has(item) => return Some(middle),
+                Some(part) if part.from <= item => low = middle.saturating_add(1),
+                _ => high = middle,
+            }
+        }
+        None
     }
 
     /// Whether the part is one of it.
     pub fn has_part(&self, part: &Part) -> bool {
-        self.has(part.from)
-            && self
-                .equations
-                .as_slice()
-                .iter()
-                .chain(self.signature.as_ref())
-                .any(|own| own.from == part.from)
+        let own = self
+            .equation_of(part.from)
+            .and_then(|number| self.equations.get(number));
+        own.is_some_and(|own| own.from == part.from)
+            || self.signature.is_some_and(|own| own.from == part.from)
     }
 
     /// The last equation.

@@ -16,14 +16,19 @@ enum Named {
 pub fn are_blocks_placed(
     alloc: Global,
     lexemes: usize,
-    old: &Blocks,
+    blocks: &Blocks,
     draft: &[Drafted],
     new: &[BlockSpan],
 ) -> Result<bool, AllocError> {
     let numbers = numbers_of(alloc, lexemes, draft)?;
-    let olds = old.spans.as_slice();
+    let olds = blocks.spans.as_slice();
     let present = present_in(alloc, olds, numbers.as_slice())?;
-    let Some(names) = names_of(alloc, olds, present.as_slice(), draft, new)? else {
+    let openings = openings_of(alloc, lexemes, olds)?;
+    let old = Olds {
+        spans: olds,
+        openings: openings.as_slice(),
+    };
+    let Some(names) = names_of(alloc, old, present.as_slice(), draft, new)? else {
         return Ok(false);
     };
     let before = innermost(alloc, lexemes, olds, present.as_slice())?;
@@ -39,7 +44,7 @@ pub fn are_blocks_placed(
                 if drafted.first {
                     part = Some(Place {
                         from: spot.item,
-                        home: home_of(olds, drafted.manner, word),
+                        home: home_of(old, drafted.manner, word),
                     });
                 }
                 meant_in(olds, part, before_at(before.as_slice(), spot.item))
@@ -58,6 +63,27 @@ pub fn are_blocks_placed(
     Ok(true)
 }
 
+/// The old blocks, and which of them each old lexeme opens.
+#[derive(Clone, Copy)]
+struct Olds<'a> {
+    spans: &'a [BlockSpan],
+    openings: &'a [Option<usize>],
+}
+
+fn openings_of(
+    alloc: Global,
+    lexemes: usize,
+    spans: &[BlockSpan],
+) -> Result<Vec<Option<usize>>, AllocError> {
+    let mut openings = vec![in alloc; None; lexemes]?;
+    for (number, span) in spans.iter().enumerate() {
+        if let Some(slot) = span.opening.and_then(|item| openings.get_mut(item)) {
+            *slot = Some(number);
+        }
+    }
+    Ok(openings)
+}
+
 /// A carried part: its first old lexeme, and the block into which it is put.
 #[derive(Clone, Copy)]
 struct Place {
@@ -66,17 +92,15 @@ struct Place {
 }
 
 /// The block into which a part is put: that which the word opens, or that of the new `where`.
-fn home_of(spans: &[BlockSpan], manner: Option<Manner>, word: usize) -> Option<Named> {
+fn home_of(old: Olds, manner: Option<Manner>, word: usize) -> Option<Named> {
     match manner {
-        Some(Manner::Part { block: Some(spot) }) => opened_by(spans, spot.item).map(Named::Old),
+        Some(Manner::Part { block: Some(spot) }) => {
+            before_at(old.openings, spot.item).map(Named::Old)
+        }
         Some(Manner::Part { block: None }) => Some(Named::Old(0)),
         Some(Manner::Where) => Some(Named::New(word)),
         _ => None,
     }
-}
-
-fn opened_by(spans: &[BlockSpan], item: usize) -> Option<usize> {
-    spans.iter().position(|span| span.opening == Some(item))
 }
 
 /// The block in which a lexeme of a carried part is meant to stand: its old one, where that is inside of the part.
@@ -139,7 +163,7 @@ fn present_in(
 /// Which blocks the new ones are; none where one isn't meant, or an old one is missing.
 fn names_of(
     alloc: Global,
-    olds: &[BlockSpan],
+    old: Olds,
     present: &[bool],
     draft: &[Drafted],
     new: &[BlockSpan],
@@ -147,7 +171,7 @@ fn names_of(
     let mut names = Vec::with_capacity(alloc, new.len())?;
     let mut found = 0usize;
     for span in new {
-        let Some(name) = name_of(olds, draft, *span) else {
+        let Some(name) = name_of(old, draft, *span) else {
             return Ok(None);
         };
         if let Named::Old(_) = name {
@@ -160,7 +184,7 @@ fn names_of(
 }
 
 /// Which block a new one is.
-fn name_of(olds: &[BlockSpan], draft: &[Drafted], span: BlockSpan) -> Option<Named> {
+fn name_of(old: Olds, draft: &[Drafted], span: BlockSpan) -> Option<Named> {
     let Some(opening) = span.opening else {
         return Some(Named::Old(0));
     };
@@ -177,9 +201,9 @@ fn name_of(olds: &[BlockSpan], draft: &[Drafted], span: BlockSpan) -> Option<Nam
             };
         }
     };
-    let number = opened_by(olds, item)?;
-    let old = olds.get(number)?;
-    if old.explicit == span.explicit || is_new_brace(draft.get(span.from)) {
+    let number = before_at(old.openings, item)?;
+    let before = old.spans.get(number)?;
+    if before.explicit == span.explicit || is_new_brace(draft.get(span.from)) {
         Some(Named::Old(number))
     } else {
         None
