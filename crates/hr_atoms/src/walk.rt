@@ -80,15 +80,7 @@ fn walk_parts(exp: &Exp, walk: &mut Walk) -> Result<(), AllocError> {
             walk.pass(pats_len(patterns.as_slice()));
             walk_between(2, body.get(), 0, walk)
         }
-        Exp::Let(_, block, _, body) => {
-            let word = walk.passed;
-            walk.pass(1);
-            walk_decls(block, walk)?;
-            walk.pass(1);
-            let start = walk.passed;
-            walk_exp(body.get(), walk)?;
-            walk.end_let(word, start)
-        }
+        Exp::Let(_, block, _, body) => walk_let(block, body.get(), walk),
         Exp::If(_, test, _, first, _, second) => {
             walk_between(1, test.get(), 1, walk)?;
             walk_between(0, first.get(), 1, walk)?;
@@ -103,6 +95,17 @@ fn walk_parts(exp: &Exp, walk: &mut Walk) -> Result<(), AllocError> {
             walk_fields(fields.as_slice(), walk)
         }
     }
+}
+
+#[cycle(expressions)]
+fn walk_let(block: &Block<Decl>, body: &Exp, walk: &mut Walk) -> Result<(), AllocError> {
+    let word = walk.passed;
+    walk.pass(1);
+    walk_decls(block, walk)?;
+    walk.pass(1);
+    let start = walk.passed;
+    walk_exp(body, walk)?;
+    walk.end_let(word, start)
 }
 
 /// Lexemes that hold no block.

@@ -170,44 +170,33 @@ impl Cuts {
         self.swallow_inside(old, fates, from, to);
         let ends = line_ends(alloc, trivia)?;
         let tail = self.swallow(alloc, old, fates, to)?;
-        let behind = old.trivia_or_tail(tail);
-        let behind_ends = line_ends(alloc, behind)?;
-        let is_last = tail >= old.items.len();
-        let ends_line = is_last || !behind_ends.is_empty();
-        let end = behind_ends.first().copied().unwrap_or(behind.len());
-        let line = before_newline(behind, end);
-        let comment = if ends_line && has_comment(line) {
-            front_len(line)
-        } else {
-            0
-        };
+        let behind = behind_of(alloc, old, tail)?;
         let is_first = from == 0 || !ends.is_empty();
-        let is_whole = is_first && ends_line;
+        let is_whole = is_first && behind.ends_line;
         if let Some(run) = self.runs.get_mut(number) {
             run.tail = tail;
-            run.comment = comment;
+            run.comment = behind.comment;
         }
         if let Some(cut) = self.list.get_mut(tail) {
-            cut.from = if is_whole { end } else { comment };
+            cut.from = if is_whole { behind.end } else { behind.comment };
         }
-        if is_whole && is_last && behind_ends.is_empty() {
-            self.ends_file = true;
-        }
-        let lead = lead_of(trivia, ends.as_slice(), start, from == 0);
-        if let Some(cut) = self.list.get_mut(from) {
-            if is_first {
-                cut.split = lead.split;
-                cut.own = lead.own;
-                cut.blanks = if is_whole {
-                    lead.own
-                } else {
-                    behind_blanks(trivia, lead.own)
-                };
-            } else {
-                cut.split = trivia.len();
-                cut.own = trivia.len();
-                cut.blanks = trivia.len();
+        self.ends_file = self.ends_file || (is_whole && behind.ends_file);
+        let lead = if is_first {
+            lead_of(trivia, ends.as_slice(), start, from == 0)
+        } else {
+            Lead {
+                split: trivia.len(),
+                own: trivia.len(),
             }
+        };
+        if let Some(cut) = self.list.get_mut(from) {
+            cut.split = lead.split;
+            cut.own = lead.own;
+            cut.blanks = if is_whole {
+                lead.own
+            } else {
+                behind_blanks(trivia, lead.own)
+            };
         }
         Ok(())
     }
@@ -246,6 +235,37 @@ impl Cuts {
         }
         Ok(old.items.len())
     }
+}
+
+/// What stands behind a run: whether its line ends there, the place behind that line's newline and the one behind the
+/// comment on it; and whether the text ends with that line and without a newline.
+#[derive(Clone, Copy)]
+struct Behind {
+    ends_line: bool,
+    end: usize,
+    comment: usize,
+    ends_file: bool,
+}
+
+/// What stands behind a run, which is followed by the lexeme `tail`.
+fn behind_of(alloc: Global, old: &Old, tail: usize) -> Result<Behind, AllocError> {
+    let trivia = old.trivia_or_tail(tail);
+    let ends = line_ends(alloc, trivia)?;
+    let is_last = tail >= old.items.len();
+    let end = ends.first().copied().unwrap_or(trivia.len());
+    let line = before_newline(trivia, end);
+    let ends_line = is_last || !ends.is_empty();
+    let comment = if ends_line && has_comment(line) {
+        front_len(line)
+    } else {
+        0
+    };
+    Ok(Behind {
+        ends_line,
+        end,
+        comment,
+        ends_file: is_last && ends.is_empty(),
+    })
 }
 
 /// Where the whole lines of comments begin that stand directly above a lexeme, and where its own line does.
