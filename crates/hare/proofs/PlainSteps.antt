@@ -19,8 +19,8 @@ use Rattle.hr_plain.specs.Renaming.{IsNameAt, IsRenamed, IsWhy, Respelled, numbe
 use Rattle.hr_plain.specs.Scoping.{occurrences_of}
 use Rattle.hr_check.specs.Projects.{texts_of}
 use Rattle.hr_check.specs.declared.project.Project.{Project}
-use Rattle.hare.specs.Ends.{IsMeant, IsNoPlainStep, IsStep}
-use Rattle.hare.specs.Steps.{IsOutcome, IsWholeOutcome}
+use Rattle.hare.specs.Ends.{IsMeant}
+use Rattle.hare.specs.Steps.{IsNoPlainStep, IsOutcome, IsWholeOutcome}
 use Rattle.hare.specs.Words.{Renaming}
 use Rattle.hare.specs.declared.steps.Step.{Step}
 use Rattle.hare.proofs.OneTarget.{one_target}
@@ -88,20 +88,14 @@ module _ (renaming : Renaming) (olds : List (List ℕ)) (old : List ℕ) (is : o
   same_tree other tree found here p q = one_tree old found tree (subst (λ o. IsPlain o found) (same_old other here) p) q
 
   module _ (tree : Module) (plain : IsPlain old tree) where
-    only_text : (made : List ℕ) → IsRenamed tree renaming.module_name renaming.pos renaming.new_name made → IsMeant renaming olds (made ∷ [])
+    -- a text that the form's renaming makes is the one that is meant
+    pub only_text : (made : List ℕ) → IsRenamed tree renaming.module_name renaming.pos renaming.new_name made → IsMeant renaming olds (made ∷ [])
     only_text made renamed other new here step =
         let found = same_tree other tree step.tree here step.plain plain in
         let theirs : IsRenamed tree renaming.module_name renaming.pos renaming.new_name new =
         subst (λ t. IsRenamed t renaming.module_name renaming.pos renaming.new_name new) found step.renamed
         in
         ap (λ text. text ∷ []) (one_renamed tree renaming.module_name renaming.pos renaming.new_name made new renamed theirs)
-
-    -- a text that the form's renaming makes is the one that is meant
-    pub only_step : (made : List ℕ) → IsRenamed tree renaming.module_name renaming.pos renaming.new_name made → IsStep renaming olds (made ∷ [])
-    only_step made renamed = record {
-      meant = only_text made renamed;
-      made = inl (old, made, is, refl, record { tree = tree; plain = plain; renamed = renamed });
-    }
 
     -- where it is refused there is none
     pub no_step : (why : Why) → IsWhy tree renaming.module_name renaming.pos renaming.new_name why → (number : ℕ) → number_of why ≡ Some number
@@ -125,15 +119,17 @@ one_text [] text one is = absurd (omega (arith, one))
 one_text (first ∷ []) text one is = ap (λ t. t ∷ []) (sym is)
 one_text (first ∷ second ∷ texts) text one is = absurd (omega (arith, one))
 
--- where there is none, what became of the renaming in the whole project is its outcome
-pub outcome_without : (renaming : Renaming) (olds : List (List ℕ)) (project : Project) → texts_of project ≡ olds → IsNoPlainStep renaming olds → (step : Step)
-    → IsWholeOutcome project step → IsOutcome renaming olds step
-outcome_without renaming olds project texts none (Step.Renamed news) (step, new, finished) = record {
-  meant = λ old text here there. absurd (none old text here there);
-  made = inr record { project = project; step = step; old = texts; new = new; finished = finished };
+-- where there is none, any texts will do
+pub meant_without : (renaming : Renaming) (olds news : List (List ℕ)) → IsNoPlainStep renaming olds → IsMeant renaming olds news
+meant_without renaming olds news none old text here there = absurd (none old text here there)
+
+-- new texts of the whole project that are meant are its outcome
+pub outcome_meant : (renaming : Renaming) (olds news : List (List ℕ)) (project : Project) → texts_of project ≡ olds → IsMeant renaming olds news
+    → IsWholeOutcome project (Step.Renamed news) → IsOutcome renaming olds (Step.Renamed news)
+outcome_meant renaming olds news project texts meant (step, new, finished) = record {
+  meant = meant;
+  made = record { project = project; step = step; old = texts; new = new; finished = finished };
 }
-outcome_without renaming olds project texts none (Step.NotAccepted error) whole = tt
-outcome_without renaming olds project texts none (Step.Refused why) whole = none
 
 -- what an answer says, and what follows of it
 pub ok_so : {T E : Type 0} (P Q : T → Type 0) → ((value : T) → P value → Q value) → (result : Result T E) → IfOk result P → IfOk result Q

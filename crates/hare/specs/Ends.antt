@@ -43,10 +43,6 @@ pub record IsPlainStep (renaming : Renaming) (old new : List ℕ) : Type 0 where
 abbrev pub IsMeant : Renaming → List (List ℕ) → List (List ℕ) → Type 0
 IsMeant renaming olds news = (old new : List ℕ) → olds ≡ old ∷ [] → IsPlainStep renaming old new → news ≡ new ∷ []
 
--- the new text is that of the renaming in one text of the plain form
-abbrev pub IsMadePlainly : Renaming → List (List ℕ) → List (List ℕ) → Type 0
-IsMadePlainly renaming olds news = (old new : List ℕ) × (olds ≡ old ∷ []) × (news ≡ new ∷ []) × IsPlainStep renaming old new
-
 -- the new texts are those of a project that was compared with the old ones' project
 pub record IsWholeStep (olds news : List (List ℕ)) : Type 0 where
   pub project : Project
@@ -58,11 +54,7 @@ pub record IsWholeStep (olds news : List (List ℕ)) : Type 0 where
 -- the renaming is carried out: these are the new texts
 pub record IsStep (renaming : Renaming) (olds news : List (List ℕ)) : Type 0 where
   pub meant : IsMeant renaming olds news
-  pub made : IsMadePlainly renaming olds news ⊎ IsWholeStep olds news
-
--- and then it isn't refused
-abbrev pub IsNoPlainStep : Renaming → List (List ℕ) → Type 0
-IsNoPlainStep renaming olds = (old new : List ℕ) → olds ≡ old ∷ [] → IsPlainStep renaming old new → ⊥
+  pub made : IsWholeStep olds news
 
 -- the texts of the renaming's files
 abbrev pub Reads : List (List ℕ) → Store → Renaming → List (List ℕ) → Type 0
@@ -89,7 +81,7 @@ EndsWith words before after Done text =
     (renaming : Renaming) × (olds news : List (List ℕ)) × Reads words before renaming olds × IsStep renaming olds news
     × IsReplaced renaming.files (changes olds news) before after × (text ≡ report.done (changed renaming olds news))
 EndsWith words before after StepRefused text =
-    (renaming : Renaming) × (olds : List (List ℕ)) × (why : Why) × Reads words before renaming olds × IsNoPlainStep renaming olds
+    (renaming : Renaming) × (olds : List (List ℕ)) × (why : Why) × Reads words before renaming olds
     × IsKept (length renaming.files) before after × (Some text ≡ report.refused why)
 EndsWith words before after BadWords text =
     (renaming_of words ≡ None) × (after ≡ before) × (text ≡ report.bad_words)

@@ -1,5 +1,5 @@
 -- A renaming on the texts of its files.
-use Rattle.std.specs.Prelude.{◌≡◌, ℕ, ◌≤◌, List, All, length}
+use Rattle.std.specs.Prelude.{◌≡◌, ℕ, ◌≤◌, List, [], ◌∷◌, All, length}
 use Rattle.hr_base.specs.Limits.{module_limit}
 use Rattle.hr_shelf.specs.Outside.{Store, Output}
 use Rattle.hr_files.specs.Read.{AreRead, IsUnread}
@@ -10,7 +10,7 @@ use Rattle.hr_finish.specs.Compared.{IsFinished}
 use Rattle.hr_finish.specs.declared.finishing.Step as finish
 use Rattle.hare.specs.declared.steps.Step.{Step}
 use Rattle.hare.specs.declared.status.Status.{Status}
-use Rattle.hare.specs.Ends.{AreFew, AreGood, Ends, IsNoPlainStep, IsStep}
+use Rattle.hare.specs.Ends.{AreFew, AreGood, Ends, IsPlainStep, IsStep}
 use Rattle.hare.specs.Outsides.{IsKept, outside}
 use Rattle.hare.specs.Words.{Renaming}
 
@@ -18,11 +18,15 @@ use Rattle.hare.specs.Words.{Renaming}
 abbrev pub AreShort : List (List ℕ) → Type 0
 AreShort texts = All (λ text. length text ≤ module_limit) texts
 
+-- the texts are no text of the plain form in which the renaming is accepted
+abbrev pub IsNoPlainStep : Renaming → List (List ℕ) → Type 0
+IsNoPlainStep renaming olds = (old new : List ℕ) → olds ≡ old ∷ [] → IsPlainStep renaming old new → ⊥
+
 -- what became of it in memory
 abbrev pub IsOutcome : Renaming → List (List ℕ) → Step → Type 0
 IsOutcome renaming olds (Step.Renamed news) = IsStep renaming olds news
 IsOutcome renaming olds (Step.NotAccepted error) = Unit {0}
-IsOutcome renaming olds (Step.Refused why) = IsNoPlainStep renaming olds
+IsOutcome renaming olds (Step.Refused why) = Unit {0}
 
 -- what became of it in the whole project
 abbrev pub IsWholeOutcome : Project → Step → Type 0

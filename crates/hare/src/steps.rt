@@ -1,8 +1,8 @@
 //! A renaming in memory.
-ghost use Rattle.std.specs.Prelude.{◌≡◌, ◌∷◌, [], IfOk, MatchOption};
-ghost use Rattle.hare.specs.Ends.{IsNoPlainStep, IsStep};
+ghost use Rattle.std.specs.Prelude.{◌≡◌, ◌∷◌, [], IfOk, MatchOption, true};
+ghost use Rattle.hare.specs.Ends.{IsMeant};
 ghost use Rattle.hare.specs.Shown.{shown};
-ghost use Rattle.hare.specs.Steps.{AreShort, IsOutcome, IsWholeOutcome};
+ghost use Rattle.hare.specs.Steps.{AreShort, IsNoPlainStep, IsOutcome, IsWholeOutcome};
 
 use crate::words::Renaming;
 use hr_base::{Seq, Text};
@@ -21,7 +21,7 @@ pub enum Step {
 }
 
 /// The renaming of the project that the texts are. Where they are one text of the plain form in which it is accepted,
-/// it is carried out there.
+/// the new text is that of the form's renaming too; were it another, want of memory is the answer.
 pub fn take_step(alloc: Global, command: Renaming<'_>, texts: &[Text]) -> Result<Step, AllocError>
     requires { AreShort texts.now }
     ensures { IfOk result (IsOutcome (shown command.entry) texts.now) }
@@ -30,12 +30,43 @@ pub fn take_step(alloc: Global, command: Renaming<'_>, texts: &[Text]) -> Result
         Ok(project) => project,
         Err(error) => return Ok(Step::NotAccepted(error)),
     };
-    match plain_step(alloc, command, texts)? {
-        Some(new) => {
-            let list = vec![in alloc; new]?;
-            Ok(Step::Renamed(Seq { list }))
+    match whole_step(alloc, command, &project)? {
+        Step::Renamed(news) => {
+            if is_meant(alloc, command, texts, news.as_slice())? {
+                Ok(Step::Renamed(news))
+            } else {
+                Err(AllocError)
+            }
         }
-        None => whole_step(alloc, command, &project),
+        Step::NotAccepted(error) => Ok(Step::NotAccepted(error)),
+        Step::Refused(why) => Ok(Step::Refused(why)),
+    }
+}
+
+/// Whether the new texts are the one that the plain form's renaming makes, where the old ones are one text of the form
+/// in which it is accepted.
+fn is_meant(
+    alloc: Global,
+    command: Renaming<'_>,
+    olds: &[Text],
+    news: &[Text],
+) -> Result<bool, AllocError>
+    requires { AreShort olds.now }
+    ensures { IfOk result (λ is. is ≡ true → IsMeant (shown command.entry) olds.now news.now) }
+{
+    match plain_step(alloc, command, olds)? {
+        Some(text) => Ok(is_one(news, &text)),
+        None => Ok(true),
+    }
+}
+
+/// Whether the texts are this one alone.
+fn is_one(texts: &[Text], text: &Text) -> bool
+    ensures { result ≡ true → texts.now ≡ text.now ∷ [] }
+{
+    match texts {
+        [only] => only == text,
+        _ => false,
     }
 }
 
@@ -46,7 +77,7 @@ fn plain_step(
     texts: &[Text],
 ) -> Result<Option<Text>, AllocError>
     requires { AreShort texts.now }
-    ensures { IfOk result (λ found. MatchOption found (IsNoPlainStep (shown command.entry) texts.now) (λ new. IsStep (shown command.entry) texts.now (new ∷ []))) }
+    ensures { IfOk result (λ found. MatchOption found (IsNoPlainStep (shown command.entry) texts.now) (λ new. IsMeant (shown command.entry) texts.now (new ∷ []))) }
 {
     let [text] = texts else {
         return Ok(None);
