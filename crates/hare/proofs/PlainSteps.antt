@@ -1,6 +1,6 @@
 -- A renaming that is accepted in a text of the plain form has one text, and neither the text nor the renaming is refused
 -- there.
-use Rattle.std.proofs.Common.{Result, Ok, Err, IfOk, ◌≡◌, ◌≤◌, ℕ, inl, inr, List, [], ◌∷◌, length, Option, Some, None, get_or, true≢false, arith, refl, sym, ap, subst, ◌∙◌, slice_get}
+use Rattle.std.proofs.Common.{◌≡◌, ◌≤◌, ℕ, List, [], ◌∷◌, length, Option, Some, None, get_or, true≢false, arith, sym, ap, subst, ◌∙◌, slice_get}
 use Rattle.hr_base.specs.Limits.{module_limit}
 use Rattle.hr_base.specs.declared.place.Pos.{Pos}
 use Rattle.hr_base.specs.declared.lexeme.Item.{Item}
@@ -17,12 +17,9 @@ use Rattle.hr_plain.specs.Form.{IsPlain}
 use Rattle.hr_plain.specs.Refusals.{IsLoadRefusal, load_number}
 use Rattle.hr_plain.specs.Renaming.{IsNameAt, IsRenamed, IsWhy, Respelled, number_of, owner_at}
 use Rattle.hr_plain.specs.Scoping.{occurrences_of}
-use Rattle.hr_check.specs.Projects.{texts_of}
-use Rattle.hr_check.specs.declared.project.Project.{Project}
-use Rattle.hare.specs.Ends.{IsMeant, IsNoPlainStep, IsStep}
-use Rattle.hare.specs.Steps.{IsOutcome, IsWholeOutcome}
+use Rattle.hare.specs.Ends.{IsMeant}
+use Rattle.hare.specs.Steps.{IsNoPlainStep}
 use Rattle.hare.specs.Words.{Renaming}
-use Rattle.hare.specs.declared.steps.Step.{Step}
 use Rattle.hare.proofs.OneTarget.{one_target}
 use Rattle.hare.proofs.OneTree.{one_tree}
 
@@ -88,20 +85,14 @@ module _ (renaming : Renaming) (olds : List (List ℕ)) (old : List ℕ) (is : o
   same_tree other tree found here p q = one_tree old found tree (subst (λ o. IsPlain o found) (same_old other here) p) q
 
   module _ (tree : Module) (plain : IsPlain old tree) where
-    only_text : (made : List ℕ) → IsRenamed tree renaming.module_name renaming.pos renaming.new_name made → IsMeant renaming olds (made ∷ [])
+    -- a text that the form's renaming makes is the one that is meant
+    pub only_text : (made : List ℕ) → IsRenamed tree renaming.module_name renaming.pos renaming.new_name made → IsMeant renaming olds (made ∷ [])
     only_text made renamed other new here step =
         let found = same_tree other tree step.tree here step.plain plain in
         let theirs : IsRenamed tree renaming.module_name renaming.pos renaming.new_name new =
         subst (λ t. IsRenamed t renaming.module_name renaming.pos renaming.new_name new) found step.renamed
         in
         ap (λ text. text ∷ []) (one_renamed tree renaming.module_name renaming.pos renaming.new_name made new renamed theirs)
-
-    -- a text that the form's renaming makes is the one that is meant
-    pub only_step : (made : List ℕ) → IsRenamed tree renaming.module_name renaming.pos renaming.new_name made → IsStep renaming olds (made ∷ [])
-    only_step made renamed = record {
-      meant = only_text made renamed;
-      made = inl (old, made, is, refl, record { tree = tree; plain = plain; renamed = renamed });
-    }
 
     -- where it is refused there is none
     pub no_step : (why : Why) → IsWhy tree renaming.module_name renaming.pos renaming.new_name why → (number : ℕ) → number_of why ≡ Some number
@@ -125,17 +116,6 @@ one_text [] text one is = absurd (omega (arith, one))
 one_text (first ∷ []) text one is = ap (λ t. t ∷ []) (sym is)
 one_text (first ∷ second ∷ texts) text one is = absurd (omega (arith, one))
 
--- where there is none, what became of the renaming in the whole project is its outcome
-pub outcome_without : (renaming : Renaming) (olds : List (List ℕ)) (project : Project) → texts_of project ≡ olds → IsNoPlainStep renaming olds → (step : Step)
-    → IsWholeOutcome project step → IsOutcome renaming olds step
-outcome_without renaming olds project texts none (Step.Renamed news) (step, new, finished) = record {
-  meant = λ old text here there. absurd (none old text here there);
-  made = inr record { project = project; step = step; old = texts; new = new; finished = finished };
-}
-outcome_without renaming olds project texts none (Step.NotAccepted error) whole = tt
-outcome_without renaming olds project texts none (Step.Refused why) whole = none
-
--- what an answer says, and what follows of it
-pub ok_so : {T E : Type 0} (P Q : T → Type 0) → ((value : T) → P value → Q value) → (result : Result T E) → IfOk result P → IfOk result Q
-ok_so P Q so (Ok value) is = so value is
-ok_so P Q so (Err error) is = tt
+-- where there is none, any texts will do
+pub meant_without : (renaming : Renaming) (olds news : List (List ℕ)) → IsNoPlainStep renaming olds → IsMeant renaming olds news
+meant_without renaming olds news none old text here there = absurd (none old text here there)

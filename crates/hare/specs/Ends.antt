@@ -6,11 +6,11 @@ use Rattle.hr_files.specs.Read.{AreRead, IsUnread}
 use Rattle.hr_files.specs.Replaced.{changes_from, name_of}
 use Rattle.hr_files.specs.declared.reading.Unread.{Unread}
 use Rattle.hr_files.specs.declared.replacing.Change.{Change}
-use Rattle.hr_check.specs.Projects.{texts_of}
+use Rattle.hr_check.specs.Projects.{modules_of, texts_of}
 use Rattle.hr_check.specs.declared.error.LoadError.{LoadError}
 use Rattle.hr_check.specs.declared.project.Project.{Project}
-use Rattle.hr_finish.specs.Compared.{IsFinished}
-use Rattle.hr_finish.specs.declared.finishing.Step.{Step}
+use Rattle.hr_finish.specs.Renamed.{IsRename}
+use Rattle.hr_tree_items.specs.Texts.{AreTextsOf}
 use Rattle.hr_plain_tree.specs.declared.tree.Module.{Module}
 use Rattle.hr_plain.specs.Form.{IsPlain}
 use Rattle.hr_plain.specs.Renaming.{IsRenamed}
@@ -43,26 +43,20 @@ pub record IsPlainStep (renaming : Renaming) (old new : List ℕ) : Type 0 where
 abbrev pub IsMeant : Renaming → List (List ℕ) → List (List ℕ) → Type 0
 IsMeant renaming olds news = (old new : List ℕ) → olds ≡ old ∷ [] → IsPlainStep renaming old new → news ≡ new ∷ []
 
--- the new text is that of the renaming in one text of the plain form
-abbrev pub IsMadePlainly : Renaming → List (List ℕ) → List (List ℕ) → Type 0
-IsMadePlainly renaming olds news = (old new : List ℕ) × (olds ≡ old ∷ []) × (news ≡ new ∷ []) × IsPlainStep renaming old new
-
--- the new texts are those of a project that was compared with the old ones' project
-pub record IsWholeStep (olds news : List (List ℕ)) : Type 0 where
-  pub project : Project
-  pub step : Step
-  pub old : texts_of project ≡ olds
-  pub new : texts_of step.project ≡ news
-  pub finished : IsFinished project step
+-- The old texts are those of an accepted project, and the new ones those of the project that is the old one with what the
+-- position names renamed.
+pub record IsMade (renaming : Renaming) (olds news : List (List ℕ)) : Type 0 where
+  pub old_project : Project
+  pub new_project : Project
+  pub old : texts_of old_project ≡ olds
+  pub new : texts_of new_project ≡ news
+  pub read : AreTextsOf (texts_of old_project) (modules_of old_project)
+  pub renamed : IsRename old_project new_project renaming.module_name renaming.pos renaming.new_name
 
 -- the renaming is carried out: these are the new texts
 pub record IsStep (renaming : Renaming) (olds news : List (List ℕ)) : Type 0 where
   pub meant : IsMeant renaming olds news
-  pub made : IsMadePlainly renaming olds news ⊎ IsWholeStep olds news
-
--- and then it isn't refused
-abbrev pub IsNoPlainStep : Renaming → List (List ℕ) → Type 0
-IsNoPlainStep renaming olds = (old new : List ℕ) → olds ≡ old ∷ [] → IsPlainStep renaming old new → ⊥
+  pub made : IsMade renaming olds news
 
 -- the texts of the renaming's files
 abbrev pub Reads : List (List ℕ) → Store → Renaming → List (List ℕ) → Type 0
@@ -89,7 +83,7 @@ EndsWith words before after Done text =
     (renaming : Renaming) × (olds news : List (List ℕ)) × Reads words before renaming olds × IsStep renaming olds news
     × IsReplaced renaming.files (changes olds news) before after × (text ≡ report.done (changed renaming olds news))
 EndsWith words before after StepRefused text =
-    (renaming : Renaming) × (olds : List (List ℕ)) × (why : Why) × Reads words before renaming olds × IsNoPlainStep renaming olds
+    (renaming : Renaming) × (olds : List (List ℕ)) × (why : Why) × Reads words before renaming olds
     × IsKept (length renaming.files) before after × (Some text ≡ report.refused why)
 EndsWith words before after BadWords text =
     (renaming_of words ≡ None) × (after ≡ before) × (text ≡ report.bad_words)

@@ -1,16 +1,15 @@
 -- A renaming on the texts of its files.
-use Rattle.std.specs.Prelude.{◌≡◌, ℕ, ◌≤◌, List, All, length}
+use Rattle.std.specs.Prelude.{◌≡◌, ℕ, ◌≤◌, List, [], ◌∷◌, All, length}
 use Rattle.hr_base.specs.Limits.{module_limit}
 use Rattle.hr_shelf.specs.Outside.{Store, Output}
 use Rattle.hr_files.specs.Read.{AreRead, IsUnread}
 use Rattle.hr_files.specs.declared.reading.Unread.{Unread}
 use Rattle.hr_check.specs.Projects.{texts_of}
 use Rattle.hr_check.specs.declared.project.Project.{Project}
-use Rattle.hr_finish.specs.Compared.{IsFinished}
-use Rattle.hr_finish.specs.declared.finishing.Step as finish
+use Rattle.hr_finish.specs.Renamed.{IsRename}
 use Rattle.hare.specs.declared.steps.Step.{Step}
 use Rattle.hare.specs.declared.status.Status.{Status}
-use Rattle.hare.specs.Ends.{AreFew, AreGood, Ends, IsNoPlainStep, IsStep}
+use Rattle.hare.specs.Ends.{AreFew, AreGood, Ends, IsMeant, IsPlainStep, IsStep}
 use Rattle.hare.specs.Outsides.{IsKept, outside}
 use Rattle.hare.specs.Words.{Renaming}
 
@@ -18,17 +17,28 @@ use Rattle.hare.specs.Words.{Renaming}
 abbrev pub AreShort : List (List ℕ) → Type 0
 AreShort texts = All (λ text. length text ≤ module_limit) texts
 
+-- the texts are no text of the plain form in which the renaming is accepted
+abbrev pub IsNoPlainStep : Renaming → List (List ℕ) → Type 0
+IsNoPlainStep renaming olds = (old new : List ℕ) → olds ≡ old ∷ [] → IsPlainStep renaming old new → ⊥
+
+-- the new texts, if there are any, are meant
+abbrev pub IsMeantBy : Renaming → List (List ℕ) → Step → Type 0
+IsMeantBy renaming olds (Step.Renamed news) = IsMeant renaming olds news
+IsMeantBy renaming olds (Step.NotAccepted error) = Unit {0}
+IsMeantBy renaming olds (Step.Refused why) = Unit {0}
+
 -- what became of it in memory
 abbrev pub IsOutcome : Renaming → List (List ℕ) → Step → Type 0
 IsOutcome renaming olds (Step.Renamed news) = IsStep renaming olds news
 IsOutcome renaming olds (Step.NotAccepted error) = Unit {0}
-IsOutcome renaming olds (Step.Refused why) = IsNoPlainStep renaming olds
+IsOutcome renaming olds (Step.Refused why) = Unit {0}
 
--- what became of it in the whole project
-abbrev pub IsWholeOutcome : Project → Step → Type 0
-IsWholeOutcome project (Step.Renamed news) = (step : finish.Step) × (texts_of step.project ≡ news) × IsFinished project step
-IsWholeOutcome project (Step.NotAccepted error) = Unit {0}
-IsWholeOutcome project (Step.Refused why) = Unit {0}
+-- what became of it in the project
+abbrev pub IsOutcomeIn : Renaming → Project → Step → Type 0
+IsOutcomeIn renaming project (Step.Renamed news) =
+    (new : Project) × (texts_of new ≡ news) × IsRename project new renaming.module_name renaming.pos renaming.new_name
+IsOutcomeIn renaming project (Step.NotAccepted error) = Unit {0}
+IsOutcomeIn renaming project (Step.Refused why) = Unit {0}
 
 -- a run of whatever words are this renaming, which found the one shelf and sink and left the other ones
 abbrev pub RunsFor : Renaming → Store → Output → Store → Output → Status → Type 0

@@ -1,8 +1,8 @@
 //! A renaming in memory.
-ghost use Rattle.std.specs.Prelude.{◌≡◌, ◌∷◌, [], IfOk, MatchOption};
-ghost use Rattle.hare.specs.Ends.{IsNoPlainStep, IsStep};
+ghost use Rattle.std.specs.Prelude.{◌≡◌, ◌∷◌, [], IfOk, MatchOption, true};
+ghost use Rattle.hare.specs.Ends.{IsMeant};
 ghost use Rattle.hare.specs.Shown.{shown};
-ghost use Rattle.hare.specs.Steps.{AreShort, IsOutcome, IsWholeOutcome};
+ghost use Rattle.hare.specs.Steps.{AreShort, IsMeantBy, IsNoPlainStep, IsOutcome, IsOutcomeIn};
 
 use crate::words::Renaming;
 use hr_base::{Seq, Text};
@@ -20,8 +20,8 @@ pub enum Step {
     Refused(Why),
 }
 
-/// The renaming of the project that the texts are. Where they are one text of the plain form in which it is accepted,
-/// it is carried out there.
+/// The renaming in the project that the texts are. Where they are one text of the plain form in which it is accepted,
+/// the new text is that of the form's renaming too; were it another, want of memory is the answer.
 pub fn take_step(alloc: Global, command: Renaming<'_>, texts: &[Text]) -> Result<Step, AllocError>
     requires { AreShort texts.now }
     ensures { IfOk result (IsOutcome (shown command.entry) texts.now) }
@@ -30,12 +30,54 @@ pub fn take_step(alloc: Global, command: Renaming<'_>, texts: &[Text]) -> Result
         Ok(project) => project,
         Err(error) => return Ok(Step::NotAccepted(error)),
     };
-    match plain_step(alloc, command, texts)? {
-        Some(new) => {
-            let list = vec![in alloc; new]?;
-            Ok(Step::Renamed(Seq { list }))
-        }
-        None => whole_step(alloc, command, &project),
+    let step = step_in(alloc, command, &project)?;
+    if is_meant(alloc, command, texts, &step)? {
+        return Ok(step);
+    }
+    Err(AllocError)
+}
+
+/// Whether the new texts, where there are any, are those of the plain form's renaming, where the old ones are one text of
+/// the form in which it is accepted.
+fn is_meant(
+    alloc: Global,
+    command: Renaming<'_>,
+    olds: &[Text],
+    step: &Step,
+) -> Result<bool, AllocError>
+    requires { AreShort olds.now }
+    ensures { IfOk result (λ is. is ≡ true → IsMeantBy (shown command.entry) olds.now step.now) }
+{
+    match step {
+        Step::Renamed(news) => are_meant(alloc, command, olds, news.as_slice()),
+        Step::NotAccepted(_) => Ok(true),
+        Step::Refused(_) => Ok(true),
+    }
+}
+
+/// The same of the new texts.
+fn are_meant(
+    alloc: Global,
+    command: Renaming<'_>,
+    olds: &[Text],
+    news: &[Text],
+) -> Result<bool, AllocError>
+    requires { AreShort olds.now }
+    ensures { IfOk result (λ are. are ≡ true → IsMeant (shown command.entry) olds.now news.now) }
+{
+    match plain_step(alloc, command, olds)? {
+        Some(text) => Ok(is_one(news, &text)),
+        None => Ok(true),
+    }
+}
+
+/// Whether the texts are this one alone.
+fn is_one(texts: &[Text], text: &Text) -> bool
+    ensures { result ≡ true → texts.now ≡ text.now ∷ [] }
+{
+    match texts {
+        [only] => only.is(text.as_slice()),
+        _ => false,
     }
 }
 
@@ -46,7 +88,7 @@ fn plain_step(
     texts: &[Text],
 ) -> Result<Option<Text>, AllocError>
     requires { AreShort texts.now }
-    ensures { IfOk result (λ found. MatchOption found (IsNoPlainStep (shown command.entry) texts.now) (λ new. IsStep (shown command.entry) texts.now (new ∷ []))) }
+    ensures { IfOk result (λ found. MatchOption found (IsNoPlainStep (shown command.entry) texts.now) (λ new. IsMeant (shown command.entry) texts.now (new ∷ []))) }
 {
     let [text] = texts else {
         return Ok(None);
@@ -71,9 +113,9 @@ fn plain_step(
     }
 }
 
-/// The renaming in the whole project.
-fn whole_step(alloc: Global, command: Renaming<'_>, project: &Project) -> Result<Step, AllocError>
-    ensures { IfOk result (IsWholeOutcome project.now) }
+/// The renaming in the project.
+fn step_in(alloc: Global, command: Renaming<'_>, project: &Project) -> Result<Step, AllocError>
+    ensures { IfOk result (IsOutcomeIn (shown command.entry) project.now) }
 {
     match rename(alloc, project, command.module, command.pos, command.new) {
         Ok(step) => Ok(Step::Renamed(copies(alloc, step.project.texts())?)),

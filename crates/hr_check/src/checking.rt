@@ -1,15 +1,14 @@
 ghost use Rattle.std.specs.Prelude.{◌≡◌, IfOk};
-ghost use Rattle.hr_check.specs.Projects.{texts_of};
+ghost use Rattle.hr_check.specs.Projects.{modules_of, texts_of};
+ghost use Rattle.hr_tree_items.specs.Texts.{AreTextsOf};
 
 use crate::imports::{edges, names};
+use crate::reading::read_all;
 use crate::{LoadError, Project};
 use hr_base::Text;
 use hr_exports::close;
 use hr_grading::{Fixities, grade};
 use hr_graph::order;
-use hr_lexer::lex;
-use hr_parse::parse;
-use hr_prelude::{Builtin, source};
 use hr_scope::bind;
 use hr_tables::{Bindings, Interfaces};
 use hr_tree::Module;
@@ -18,7 +17,8 @@ use std::alloc::{AllocError, Global};
 /// The project of the texts, or the refusal of the first layer that refuses: lexemes and trees text by text; then
 /// the order of imports, exports, names, and fixities.
 pub fn check(alloc: Global, texts: &[Text]) -> Result<Project, LoadError>
-    ensures { IfOk result (λ project. texts_of project ≡ texts.now) }
+    ensures texts { IfOk result (λ project. texts_of project ≡ texts.now) }
+    ensures read { IfOk result (λ project. AreTextsOf (texts_of project) (modules_of project)) }
 {
     let trees = read_all(alloc, texts)?;
     let (interfaces, bindings) = check_trees(alloc, trees.as_slice())?;
@@ -28,38 +28,6 @@ pub fn check(alloc: Global, texts: &[Text]) -> Result<Project, LoadError>
         interfaces,
         bindings,
     })
-}
-
-/// The trees of the texts, and then of Prelude and Char.
-pub fn read_all(alloc: Global, texts: &[Text]) -> Result<Vec<Module>, LoadError> {
-    let mut trees = Vec::new(alloc);
-    for (text, bytes) in texts.iter().enumerate() {
-        read(alloc, &mut trees, text, bytes.as_slice())?;
-    }
-    for which in [Builtin::Prelude, Builtin::Char] {
-        read(alloc, &mut trees, texts.len(), source(which).as_bytes())?;
-    }
-    Ok(trees)
-}
-
-/// Reads the text of that number.
-fn read(
-    alloc: Global,
-    trees: &mut Vec<Module>,
-    text: usize,
-    bytes: &[u8],
-) -> Result<(), LoadError> {
-    match lex(alloc, bytes) {
-        Err(error) => Err(LoadError::lexing(text, error)),
-        Ok(items) => match parse(alloc, items) {
-            Err(error) => Err(LoadError::parsing(text, error)),
-            Ok(tree) => Ok(keep(trees, tree)?),
-        },
-    }
-}
-
-fn keep(trees: &mut Vec<Module>, tree: Module) -> Result<(), AllocError> {
-    Ok(trees.push(tree)?)
 }
 
 /// What the modules export and see, and what their names are bound to.

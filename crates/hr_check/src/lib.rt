@@ -5,8 +5,10 @@ mod checking;
 mod error;
 mod imports;
 mod project;
+mod reading;
 
-pub use checking::{check, read_all};
+pub use checking::check;
 pub use error::LoadError;
 pub use imports::{edges, names};
 pub use project::Project;
+pub use reading::read_all;

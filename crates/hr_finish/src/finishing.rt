@@ -1,4 +1,6 @@
 ghost use Rattle.std.specs.Prelude.{IfErr, IfOk, OnOk};
+ghost use Rattle.hr_check.specs.Projects.{modules_of, texts_of};
+ghost use Rattle.hr_tree_items.specs.Texts.{AreTextsOf};
 ghost use Rattle.hr_finish.specs.Compared.{IsCompared, IsFinished};
 ghost use Rattle.hr_finish.specs.Endings.{IsEnding};
 
@@ -27,6 +29,7 @@ pub struct Step {
 /// first of these. A target that isn't read as it was meant writes nothing: it is answered by want of memory.
 pub fn finish(alloc: Global, old: &Project, edits: &[Edit], map: NameMap) -> Result<Step, Why>
     ensures done { IfOk result (IsFinished old.now) }
+    ensures read { IfOk result (λ step. AreTextsOf (texts_of step.project) (modules_of step.project)) }
     ensures refused { IfErr result IsEnding }
 {
     let drafts = apply(alloc, old.modules(), edits).map_err(Why::Memory)?;

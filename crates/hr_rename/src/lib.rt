@@ -9,3 +9,4 @@ mod thing;
 
 pub use plan::{Renaming, plan_rename};
 pub use scene::Scene;
+pub use spelling::respelled;

@@ -1,3 +1,7 @@
+//! What a rename writes, or why it is refused before anything is written.
+ghost use Rattle.std.specs.Prelude.{◌≡◌, IfOk};
+ghost use Rattle.hr_rename.specs.Named.{IsNamed};
+
 use crate::edits::edits_of;
 use crate::scene::Scene;
 use crate::spelling::{is_lexeme_of, plain_text};
@@ -8,9 +12,10 @@ use hr_step::NameMap;
 use hr_why::Why;
 use std::alloc::{AllocError, Global};
 
-/// What a rename writes: the edits, and the top-level thing with its new name, where it is one.
+/// What a rename writes: what is renamed, the edits, and the top-level thing with its new name, where it is one.
 #[derive(Drop)]
 pub struct Renaming {
+    pub binder: Binder,
     pub edits: Vec<Edit>,
     pub map: NameMap,
 }
@@ -24,7 +29,9 @@ pub fn plan_rename(
     module: &Text,
     pos: Pos,
     new: &Text,
-) -> Result<Renaming, Why> {
+) -> Result<Renaming, Why>
+    ensures { IfOk result (λ renaming. IsNamed scene.now.files scene.now.modules.now scene.now.bindings.now.modules «module».now pos renaming.binder) }
+{
     let thing = thing_at(alloc, scene, module, pos)?;
     if let Binder::Global(entity) = thing.binder {
         if is_builtin(entity) {
@@ -49,13 +56,16 @@ fn respelling(
     scene: &Scene,
     binder: &Binder,
     new: &Text,
-) -> Result<Renaming, AllocError> {
+) -> Result<Renaming, AllocError>
+    ensures { IfOk result (λ renaming. renaming.binder ≡ binder.now) }
+{
     let edits = edits_of(alloc, scene.modules, scene.bindings, binder, new)?;
     let mut list = Vec::new(alloc);
     if let Binder::Global(entity) = binder {
         list.push((entity.clone()?, renamed(entity, new)?))?;
     }
     Ok(Renaming {
+        binder: binder.clone()?,
         edits,
         map: NameMap {
             pairs: Seq { list },

@@ -1,6 +1,11 @@
 //! The project that a rename is asked of.
+ghost use Rattle.std.specs.Prelude.{◌≡◌, IfSome};
+ghost use Rattle.std.specs.Option.{option_copied};
+ghost use Rattle.hr_step.specs.Names.{binder_at};
+ghost use Rattle.hr_rename.specs.Named.{IsModule, name_of};
 
 use hr_base::{Binder, Spot, Text};
+use hr_step::binder_at;
 use hr_tables::Bindings;
 use hr_tree::Module;
 
@@ -14,35 +19,35 @@ pub struct Scene<'a> {
 }
 
 impl<'a> Scene<'a> {
-    /// The number of the module of the name among those of the files.
-    pub fn module_named(&self, name: &Text) -> Option<usize> {
+    /// The module of the name among those of the files, and its number.
+    pub fn module_named(&self, name: &Text) -> Option<(usize, &'a Module)>
+        ensures { IfSome result (λ found. IsModule self.now.files self.now.modules.now name.now found.0 found.1.now) }
+    {
         for (number, tree) in self.modules.iter().enumerate() {
             if number >= self.files {
                 return None;
             }
-            if is_named(tree, name) {
-                return Some(number);
+            if name.is(name_of(tree)) {
+                return Some((number, tree));
             }
         }
         None
     }
 
     /// What the lexeme is bound to.
-    pub fn binder_of(&self, spot: Spot) -> Option<&'a Binder> {
-        match self.bindings.modules.as_slice().get(spot.module) {
-            Some(entries) => match entries.as_slice().get(spot.item) {
-                Some(entry) => entry.as_ref(),
-                None => None,
-            },
-            None => None,
-        }
+    pub fn binder_of(&self, spot: Spot) -> Option<&'a Binder>
+        ensures { option_copied result ≡ binder_at self.now.bindings.now.modules spot }
+    {
+        binder_at(self.bindings, spot)
     }
 }
 
-/// Whether the module has the name. One without a header is Main.
-fn is_named(tree: &Module, name: &Text) -> bool {
+/// The name of the module. One without a header is Main.
+fn name_of(tree: &Module) -> &[u8]
+    ensures { result.now ≡ name_of tree.now }
+{
     match &tree.header {
-        Some(header) => header.name.lexeme.text == *name,
-        None => name.is(b"Main"),
+        Some(header) => header.name.lexeme.text.as_slice(),
+        None => b"Main",
     }
 }

@@ -1,4 +1,6 @@
 //! The thing that a position names.
+ghost use Rattle.std.specs.Prelude.{◌≡◌, IfOk, IfSome, Some};
+ghost use Rattle.hr_rename.specs.Named.{IsAt, IsNamed};
 
 use crate::scene::Scene;
 use crate::spelling::plain_class;
@@ -23,7 +25,9 @@ pub fn thing_at<'a>(
     scene: &Scene<'a>,
     module: &Text,
     pos: Pos,
-) -> Result<Thing<'a>, Why> {
+) -> Result<Thing<'a>, Why>
+    ensures { IfOk result (λ thing. IsNamed scene.now.files scene.now.modules.now scene.now.bindings.now.modules «module».now pos thing.binder.now) }
+{
     let Some((spot, item)) = lexeme_at(alloc, scene, module, pos)? else {
         return Err(nothing_at(module, pos));
     };
@@ -46,11 +50,10 @@ fn lexeme_at(
     scene: &Scene,
     module: &Text,
     pos: Pos,
-) -> Result<Option<(Spot, Item)>, AllocError> {
-    let Some(module) = scene.module_named(module) else {
-        return Ok(None);
-    };
-    let Some(tree) = scene.modules.get(module) else {
+) -> Result<Option<(Spot, Item)>, AllocError>
+    ensures { IfOk result (λ found. IfSome found (λ lexeme. IsAt scene.now.files scene.now.modules.now «module».now pos lexeme.0)) }
+{
+    let Some((module, tree)) = scene.module_named(module) else {
         return Ok(None);
     };
     let Some(number) = at(tree, pos) else {

@@ -1,7 +1,6 @@
-use Rattle.std.proofs.Common.{◌∙◌, Some, ap, subst}
+use Rattle.std.proofs.Common.{◌∙◌, Some, ap}
 use Rattle.hare.specs.declared.status.Status.{Status}
 use Rattle.hare.specs.Shown.{shown}
-use Rattle.hare.specs.Steps.{IsOutcome}
 use Rattle.hare.proofs.Ends.{told, were_read}
 use Rattle.hare.proofs.refactoring.rename_texts.Goals as goal
 
@@ -24,7 +23,6 @@ returns-in_ok-report-in-Refused g c = λ start read words few.
       c.args.texts.now,
       c.in-Refused.why,
       were_read words _ _ _ _ few read,
-      subst (IsOutcome (shown c.args.command) c.args.texts.now) c.in-Refused.is c.in_ok-news.ensures,
       read.kept,
       ap Some c.as_slice-in-Refused.ensures.value ∙ c.in_ok-report-in-Refused.ensures,
     )

@@ -1,7 +1,7 @@
 use Rattle.std.proofs.Common.{◌≡◌, ◌≤◌, ◌∙◌, [], ◌∷◌, length, arith, sym, ap, subst}
 use Rattle.hr_base.specs.Limits.{module_limit}
 use Rattle.hare.specs.Shown.{shown}
-use Rattle.hare.proofs.PlainSteps.{no_plain, no_step, one_text, only_step}
+use Rattle.hare.proofs.PlainSteps.{no_plain, no_step, one_text, only_text}
 use Rattle.hare.proofs.steps.plain_step.Goals as goal
 
 pub returns-in-Some : goal.returns-in-Some
@@ -18,7 +18,7 @@ returns-in-Ok-rename_plain c =
     let module_is = c.in_ok-module.ensures ∙ c.as_bytes.ensures.value in
     let new_is = c.in_ok-new.ensures ∙ c.as_bytes-2.ensures.value in
     let renamed = rw (module_is, new_is) at c.in-Ok-rename_plain.ensures.renamed in
-    only_step (shown c.args.command) c.args.texts.now c.as_slice.result.now is c.in-Ok.tree c.in-Ok.ensures.read c.in-Ok-rename_plain.text renamed
+    only_text (shown c.args.command) c.args.texts.now c.as_slice.result.now is c.in-Ok.tree c.in-Ok.ensures.read c.in-Ok-rename_plain.text renamed
 
 pub returns-in-Some-number : goal.returns-in-Some-number
 returns-in-Some-number c =
