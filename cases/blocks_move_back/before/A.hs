@@ -1,0 +1,3 @@
+module A where
+longer x = case x of 0 -> 1
+                     n -> n

@@ -1,0 +1,3 @@
+module A where
+f x = case x of 0 -> 1
+                n -> n

@@ -1,0 +1,2 @@
+import M
+main s = s

@@ -1,0 +1,2 @@
+module B where
+g = 2

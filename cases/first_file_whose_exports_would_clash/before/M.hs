@@ -1,0 +1,3 @@
+module M (module A, module B) where
+import A
+import B

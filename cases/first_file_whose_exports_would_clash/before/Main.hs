@@ -1,0 +1,2 @@
+import L
+main s = s

@@ -1,0 +1,2 @@
+import A hiding (zz)
+main s = show f

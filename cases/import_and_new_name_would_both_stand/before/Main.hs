@@ -1,0 +1,3 @@
+import A
+g = f
+main s = show g

@@ -1,0 +1,2 @@
+f main = main
+main s = s

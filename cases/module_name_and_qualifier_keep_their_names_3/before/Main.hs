@@ -1,0 +1,3 @@
+module Main where
+import qualified A as Q
+main s = show Q.f

@@ -1,0 +1,3 @@
+module A where
+f = 1
+h = 2

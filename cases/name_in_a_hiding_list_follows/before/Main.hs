@@ -1,0 +1,3 @@
+import A hiding (g)
+g = 3
+main s = show (f + g)

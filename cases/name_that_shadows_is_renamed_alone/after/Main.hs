@@ -1,0 +1,4 @@
+f = 1
+g k = k
+h = f
+main s = show h

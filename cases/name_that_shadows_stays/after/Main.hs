@@ -1,0 +1,4 @@
+k = 1
+g f = f
+h = k
+main s = show h

@@ -1,0 +1,3 @@
+h = 1
+g = h
+main s = s

@@ -1,0 +1,3 @@
+f = 1
+g = f
+main s = s

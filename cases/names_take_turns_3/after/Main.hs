@@ -1,0 +1,3 @@
+g = 1
+f = g
+main s = s

@@ -1,0 +1,3 @@
+h = 1
+f = h
+main s = s

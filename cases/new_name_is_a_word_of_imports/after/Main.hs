@@ -1,0 +1,2 @@
+as = 1
+main s = s

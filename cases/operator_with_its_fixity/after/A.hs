@@ -1,0 +1,3 @@
+module A where
+infixl 6 <>
+a <> b = a

@@ -1,0 +1,2 @@
+f = 1
+main s = show f

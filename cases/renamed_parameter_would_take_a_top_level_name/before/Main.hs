@@ -1,0 +1,3 @@
+f = 1
+g x = f + x
+main s = show (g 2)

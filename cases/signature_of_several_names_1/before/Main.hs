@@ -1,0 +1,6 @@
+f, g :: Int
+f = 1
+g = h where
+  h :: Int
+  h = 2
+main s = s

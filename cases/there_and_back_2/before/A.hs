@@ -1,0 +1,3 @@
+module A where
+longer x = x + 1
+g x = longer x

@@ -1,0 +1,1 @@
+main s = show 1

@@ -1,0 +1,4 @@
+data U = T Int
+f :: U -> U
+f (T n) = T n
+main s = s

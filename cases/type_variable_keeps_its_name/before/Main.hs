@@ -1,0 +1,3 @@
+f :: a -> a
+f x = x
+main s = s

@@ -1,0 +1,3 @@
+module A (T(..), U(C)) where
+data T = T
+data U = C | D

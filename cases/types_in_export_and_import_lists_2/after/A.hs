@@ -1,0 +1,3 @@
+module A (Tee(..), U(Cee)) where
+data Tee = T
+data U = Cee | D

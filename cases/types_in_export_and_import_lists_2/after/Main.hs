@@ -1,0 +1,5 @@
+module Main where
+import A (Tee(T), U(..))
+f :: Tee -> U
+f T = Cee
+main s = s

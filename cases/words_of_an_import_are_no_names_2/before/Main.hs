@@ -1,0 +1,2 @@
+import qualified A as Q
+main s = show Q.f
