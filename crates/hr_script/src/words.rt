@@ -20,7 +20,7 @@ pub(crate) fn command_of(alloc: Global, line: &[u8]) -> Result<Option<Command>, 
 
 /// The command, if it is built.
 fn when_built(command: Option<Command>) -> Option<Command>
-    ensures { result ≡ reader.when_built command.entry }
+    ensures { result ≡ reader.when_built command }
 {
     match command {
         Some(command) if command.is_built() => Some(command),
