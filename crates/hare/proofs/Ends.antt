@@ -109,3 +109,15 @@ fault_text names olds found back changes refused lines text mid after same are w
     given.text_is ∙ ap (λ list. lines ++ write_fault (get_or names (get_or (map (λ change. change.file) list) refused 0) []) stayed) are
     ∙ ap (λ file. lines ++ write_fault file stayed) (same_name names olds found refused within)
     ∙ ap (λ list. lines ++ write_fault (get_or (map (λ change. name_of names change) list) refused []) stayed) same
+
+taken_fewer : {X : Type 0} (n : ℕ) (xs : List X) → length (take n xs) ≤ length xs
+taken_fewer zero xs = omega arith
+taken_fewer (suc n) [] = omega arith
+taken_fewer (suc n) (x ∷ xs) = let rest = taken_fewer n xs in omega (arith, rest)
+
+-- a call for each of some of the changes
+pub calls_taken : (before after n : ℕ) (all some : List Change) → some ≡ take n all → after ≤ before + length some → after ≤ before + length all
+calls_taken before after n all some is calls =
+    let fewer = taken_fewer n all in
+    let same : length some ≡ length (take n all) = ap length is in
+    omega (arith, fewer, same, calls)

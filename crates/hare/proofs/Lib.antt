@@ -4,4 +4,5 @@ pub mod OneTree
 pub mod PlainSteps
 pub mod Ready
 pub mod Rooms
+pub mod Runs
 pub mod Since

@@ -24,6 +24,7 @@ pub fn with_room(
     changes: &[Change],
 ) -> Result<Vec<u8>, AllocError>
     ensures items { IfOk result (λ text. text.items ≡ told.now) }
+    ensures len { IfOk result (λ text. vec_len text ≡ length told.now) }
     ensures room { IfOk result (λ text. length told.now + length (longest (map (λ change. name_of (map string_bytes files.now) change) changes.now)) ≤ vec_capacity text) }
 {
     let mut text = Vec::from_slice(alloc, told)?;
@@ -54,10 +55,9 @@ pub fn add_fault(text: &mut Vec<u8>, files: &[String], file: usize, stayed: &[us
     ensures { text.new.items ≡ text.old.items ++ spec.write_fault (slice_index_or (map string_bytes files.now) file []) (map (λ file. slice_index_or (map string_bytes files.now) file []) stayed.now) }
 {
     put_line(text, WRITE_FAULT, name_at(files, file));
-    if stayed.is_empty() {
-        put_line(text, ROLLED_BACK, "");
-    } else {
-        put_stayed(text, files, stayed);
+    match stayed {
+        [] => put_line(text, ROLLED_BACK, ""),
+        [_, ..] => put_stayed(text, files, stayed),
     }
 }
 
@@ -66,8 +66,10 @@ fn put_stayed(text: &mut Vec<u8>, files: &[String], stayed: &[usize])
     requires { vec_len text.old + length (spec.stayed_lines (map (λ file. slice_index_or (map string_bytes files.now) file []) stayed.now)) ≤ vec_capacity text.old }
     ensures { text.new.items ≡ text.old.items ++ spec.stayed_lines (map (λ file. slice_index_or (map string_bytes files.now) file []) stayed.now) }
 {
-    for file in stayed {
+    let mut left = stayed;
+    while let [file, rest @ ..] = left {
         put_line(text, NOT_ROLLED_BACK, name_at(files, *file));
+        left = rest;
     }
 }
 

@@ -1,5 +1,5 @@
 //! The files that change are replaced, or get their old texts again.
-ghost use Rattle.std.specs.Prelude.{◌≡◌, ◌≤◌, ◌+◌, ◌<◌, false, [], All, length, map, slice_index_or, vec_capacity};
+ghost use Rattle.std.specs.Prelude.{◌≡◌, ◌≤◌, ◌+◌, ◌<◌, false, [], All, length, map, slice_index_or, vec_capacity, vec_len};
 ghost use Rattle.std.specs.String.{string_bytes};
 ghost use Rattle.hr_files.specs.Read.{AreReady};
 ghost use Rattle.hr_files.specs.Replaced.{IsReadyChange, name_of};
@@ -62,7 +62,7 @@ fn take_back<S: Shelf>(
     requires within { refused < length back.items }
     requires none { stayed.items ≡ [] }
     requires places { length back.items ≤ vec_capacity stayed }
-    requires room { length fault.items + length (longest (map (λ change. name_of (map string_bytes files.now) change) back.items)) ≤ vec_capacity fault }
+    requires room { vec_len fault + length (longest (map (λ change. name_of (map string_bytes files.now) change) back.items)) ≤ vec_capacity fault }
     ensures { IsGivenBack (map string_bytes files.now) back.items refused fault.items (S.store shelf.old) (S.store shelf.new) result.items }
 {
     let file = file_at(back.as_slice(), refused);

@@ -1,11 +1,7 @@
-use Rattle.std.proofs.Common.{◌∙◌, refl, rules, ap, sym, Some, map}
-use Rattle.std.specs.String.{string_bytes}
+use Rattle.std.proofs.Common.{◌∙◌, refl, rules}
 use Rattle.hare.specs.declared.status.Status.{Status}
 use Rattle.hare.proofs.Ends.{told}
 use Rattle.hare.proofs.refactoring.run.Goals as goal
 
 pub returns-in_ok-report-in-None : goal.returns-in_ok-report-in-None
 returns-in_ok-report-in-None g c = told _ _ _ Status.BadWords _ _ (search rules, refl, c.as_slice.ensures.value ∙ c.in_ok-report-in-None.ensures) c.tell.ensures
-
-pub returns-in-Some : goal.returns-in-Some
-returns-in-Some g c = c.run_asked.ensures (map string_bytes c.args.words.now) (?)

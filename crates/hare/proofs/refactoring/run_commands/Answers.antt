@@ -6,9 +6,6 @@ use Rattle.hare.proofs.Ends.{asked_for_files}
 use Rattle.hare.proofs.Since.{read_since, unread_since}
 use Rattle.hare.proofs.refactoring.run_commands.Goals as goal
 
-pub run_texts-requires-clause-count : goal.run_texts-requires-clause-count
-run_texts-requires-clause-count g c = rw c.as_slice.ensures.value c.in-Ok.ensures.texts.count
-
 pub returns-in-Ok : goal.returns-in-Ok
 returns-in-Ok g c = λ words start scripted only calls.
     let now = g.S.Shelf.store c.args.shelf.now in

@@ -1,13 +1,5 @@
-use Rattle.std.proofs.Common.{sym, subst}
-use Rattle.hare.specs.Scripts.{IsScript}
 use Rattle.hare.proofs.Ends.{asked_for_script}
 use Rattle.hare.proofs.refactoring.run_script.Goals as goal
-
-pub returns-in-Ok : goal.returns-in-Ok
-returns-in-Ok g c = λ words few.
-    let store = g.S.Shelf.store c.args.shelf.now in
-    let script = subst (IsScript c.args.asked.script.now store) (sym c.as_slice.ensures) c.in-Ok.ensures.script in
-    c.run_commands.ensures words store (record { few = few; script = script }) c.read_script.ensures.only c.read_script.ensures.counted
 
 pub returns-in-Err : goal.returns-in-Err
 returns-in-Err g c = λ words few.
