@@ -53,7 +53,8 @@ fn plain_step(
     let [text] = texts else {
         return Ok(None);
     };
-    if text.len() > MODULE_LIMIT {
+    let length = text.len();
+    if length > MODULE_LIMIT {
         return Err(AllocError);
     }
     let tree = match load(alloc, text.as_slice()) {

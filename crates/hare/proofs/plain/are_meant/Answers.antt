@@ -1,7 +1,7 @@
 use Rattle.std.proofs.Common.{◌∙◌}
-use Rattle.hare.specs.Shown.{shown}
+use Rattle.hare.specs.Shown.{renaming_of}
 use Rattle.hare.proofs.PlainSteps.{meant_without}
-use Rattle.hare.proofs.steps.are_meant.Goals as goal
+use Rattle.hare.proofs.plain.are_meant.Goals as goal
 
 pub returns-in-Some : goal.returns-in-Some
 returns-in-Some c =
@@ -11,4 +11,4 @@ returns-in-Some c =
 pub returns-in-None : goal.returns-in-None
 returns-in-None c =
     let none = rw c.in-None.is at c.in_ok-text.ensures in
-    λ yes. meant_without (shown c.args.command) c.args.olds.now c.args.news.now none
+    λ yes. meant_without (renaming_of c.args.renaming) c.args.olds.now c.args.news.now none
