@@ -1,5 +1,5 @@
 -- What a session ran is a run that was asked for.
-use Rattle.std.proofs.Common.{◌≡◌, ℕ, Bool, List, [], subst, sym, ◌∙◌}
+use Rattle.std.proofs.Common.{◌≡◌, ℕ, Bool, List, [], Result, Ok, Err, IfOk, MatchResult, subst, sym}
 use Rattle.hr_check.specs.Projects.{modules_of, texts_of}
 use Rattle.hr_check.specs.declared.project.Project.{Project}
 use Rattle.hr_script.specs.declared.command.Command.{Command}
@@ -32,3 +32,8 @@ has_run words start request commands olds news told lines stopped end first begu
   };
   text = text;
 }
+
+-- what an answer says whose error was given another type
+pub ok_given : {X E : Type 0} (F : Type 0) (r : Result X E) (y : X) (P : X → Type 0) → MatchResult r (λ x. ◌≡◌ {A = Result X F} (Ok y) (Ok x)) (λ e. ⊥) → IfOk r P → P y
+ok_given F (Ok x) y P same holds = let is : y ≡ x = cc in subst P (sym is) holds
+ok_given F (Err e) y P same holds = absurd same

@@ -1,5 +1,5 @@
 -- What was asked of a shelf behind some reads is known of the shelf before them too.
-use Rattle.std.proofs.Common.{◌≡◌, ℕ, ◌+◌, ◌-◌, ◌^◌, ◌≤◌, ◌⊎◌, List, length, min, Option, Some, None, inl, inr, arith, refl, subst}
+use Rattle.std.proofs.Common.{◌≡◌, ℕ, ◌+◌, ◌-◌, ◌^◌, ◌≤◌, ◌⊎◌, List, length, min, take, Option, Some, None, inl, inr, arith, refl, subst}
 use Rattle.std.specs.FinMap.{get}
 use Rattle.hr_base.specs.Limits.{module_limit}
 use Rattle.hr_shelf.specs.Outside.{Files, HoldsMore, Store, ToldOr}
@@ -41,7 +41,7 @@ module _ (start now after : Store) (only : OnlyReads start now) where
   pub unread_since : (names : List (List ℕ)) (unread : Unread) → IsUnread names now after unread → IsUnread names start after unread
   unread_since names (Unread.Missing file) (within, cause) = (within, file_since file _ (Unread.Missing file) cause)
   unread_since names (Unread.TooLong file) (within, cause) = (within, file_since file _ (Unread.TooLong file) cause)
-  unread_since names Unread.TooLongTogether (texts, told, over) = (texts, subst (λ t. HasTexts t _ texts) only.told told, over)
+  unread_since names Unread.TooLongTogether (texts, told, over) = (texts, subst (λ t. HasTexts t (take (length texts) names) texts) only.told told, over)
   unread_since names Unread.Memory cause = cause
 
 -- the texts of files
