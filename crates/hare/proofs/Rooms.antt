@@ -1,6 +1,6 @@
 -- The room that is kept for the report of a replace that failed is enough.
-use Rattle.std.proofs.Common.{◌≡◌, ℕ, ◌+◌, ◌≤◌, ◌<◌, List, [], ◌∷◌, ◌++◌, length, map, take, get_or, suc, zero, Option, arith, refl, subst, sym, ap, ◌∙◌, append_assoc}
-use Rattle.std.proofs.lemmas.List.{length-append}
+use Rattle.std.proofs.Common.{◌≡◌, ℕ, ◌+◌, ◌≤◌, ◌<◌, List, [], ◌∷◌, ◌++◌, length, map, take, drop, get_or, suc, zero, Option, arith, refl, subst, sym, ap, ◌∙◌, append_assoc}
+use Rattle.std.proofs.lemmas.List.{at_drop_more, length-append}
 use Rattle.std.specs.Prelude.{codes}
 use Rattle.hr_shelf.specs.Outside.{Files}
 use Rattle.hr_files.specs.Replaced.{name_of}
@@ -88,3 +88,23 @@ module _ (names : List (List ℕ)) where
       let same : length (write_line file) ≡ length (write_line (get_or (named changes) refused [])) = ap (λ n. length (write_line n)) (refused_name changes refused within) in
       let all = two_parts (line (codes "rolled back")) (longest_lines (named changes)) in
       omega (arith, whole, ends, some, most, same, all)
+
+  -- the line of the next file, and those behind it
+  pub next_line : (stayed : List ℕ) (i file : ℕ) → i < length stayed → file ≡ get_or stayed i file
+      → stayed_lines (map name (drop i stayed)) ≡ stayed_line (name file) ++ stayed_lines (map name (drop (i + 1) stayed))
+  next_line stayed i file within is =
+      at_drop_more (λ left. stayed_lines (map name left)) stayed i file within
+      ∙ ap (λ f. stayed_line (name f) ++ stayed_lines (map name (drop (i + 1) stayed))) (sym is)
+
+  pub next_length : (stayed : List ℕ) (i file : ℕ) → i < length stayed → file ≡ get_or stayed i file
+      → length (stayed_lines (map name (drop i stayed))) ≡ length (stayed_line (name file)) + length (stayed_lines (map name (drop (i + 1) stayed)))
+  next_length stayed i file within is =
+      ap length (next_line stayed i file within is) ∙ two_parts (stayed_line (name file)) (stayed_lines (map name (drop (i + 1) stayed)))
+
+  pub no_files : (stayed : List ℕ) → length stayed < 1 → back_lines (map name stayed) ≡ line (codes "rolled back")
+  no_files [] few = refl
+  no_files (file ∷ stayed) few = absurd (omega (arith, few))
+
+  pub some_files : (stayed : List ℕ) → 1 ≤ length stayed → stayed_lines (map name stayed) ≡ back_lines (map name stayed)
+  some_files [] many = absurd (omega (arith, many))
+  some_files (file ∷ stayed) many = refl

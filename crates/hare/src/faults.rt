@@ -66,10 +66,8 @@ fn put_stayed(text: &mut Vec<u8>, files: &[String], stayed: &[usize])
     requires { vec_len text.old + length (spec.stayed_lines (map (λ file. slice_index_or (map string_bytes files.now) file []) stayed.now)) ≤ vec_capacity text.old }
     ensures { text.new.items ≡ text.old.items ++ spec.stayed_lines (map (λ file. slice_index_or (map string_bytes files.now) file []) stayed.now) }
 {
-    let mut left = stayed;
-    while let [file, rest @ ..] = left {
-        put_line(text, NOT_ROLLED_BACK, name_at(files, *file));
-        left = rest;
+    for index in 0..stayed.len() {
+        put_line(text, NOT_ROLLED_BACK, name_at(files, stayed[index]));
     }
 }
 

@@ -12,7 +12,7 @@ pub returns-in_ok-report : goal.returns-in_ok-report
 returns-in_ok-report g c = λ words start run kept.
     let names = map string_bytes c.args.asked.files.now in
     let store = g.S.Shelf.store c.args.shelf.now in
-    let text = c.as_slice-2.ensures.value ∙ c.in_ok-report.ensures
+    let text = c.as_slice-then-asked.ensures.value ∙ c.in_ok-report.ensures
     ∙ ap (λ list. c.args.told.items ++ report.changed (map (λ change. name_of names change) list)) (c.as_slice.ensures.value ∙ c.in_ok-changes.ensures) in
     told words _ _ Status.Done _ _ (
       shown c.args.asked,

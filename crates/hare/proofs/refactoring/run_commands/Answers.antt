@@ -19,5 +19,5 @@ returns-in-Err g c = λ words start scripted only calls.
     let now = g.S.Shelf.store c.args.shelf.now in
     let names = map string_bytes c.args.asked.files.now in
     let counted = subst (λ count. (g.S.Shelf.store c.read_files.new.shelf).calls ≤ now.calls + count) (sym (length-map c.args.asked.files.now string_bytes)) c.read_files.ensures.counted in
-    c.tell_unread.ensures words start (g.S.Shelf.store c.read_files.new.shelf) scripted (unread_since start now _ only names _ c.in-Err.ensures.cause)
+    c.tell_unread.ensures words start (g.S.Shelf.store c.read_files.new.shelf) scripted (unread_since start now (g.S.Shelf.store c.read_files.new.shelf) only names _ c.in-Err.ensures.cause)
     (asked_for_files _ _ _ _ only calls c.read_files.ensures.only counted)
