@@ -1,5 +1,5 @@
 -- The room that is kept for the report of a replace that failed is enough.
-use Rattle.std.proofs.Common.{◌≡◌, ℕ, ◌+◌, ◌≤◌, ◌<◌, List, [], ◌∷◌, ◌++◌, length, map, take, drop, get_or, suc, zero, Option, arith, refl, subst, sym, ap, ◌∙◌, append_assoc}
+use Rattle.std.proofs.Common.{◌≡◌, ℕ, ◌+◌, ◌≤◌, ◌<◌, List, [], ◌∷◌, ◌++◌, length, map, take, drop, get_or, suc, zero, Option, arith, refl, sym, ap, ◌∙◌}
 use Rattle.std.proofs.lemmas.List.{at_drop_more, length-append}
 use Rattle.std.specs.Prelude.{codes}
 use Rattle.hr_shelf.specs.Outside.{Files}
@@ -90,13 +90,13 @@ module _ (names : List (List ℕ)) where
       omega (arith, whole, ends, some, most, same, all)
 
   -- the line of the next file, and those behind it
-  pub next_line : (stayed : List ℕ) (i file : ℕ) → i < length stayed → file ≡ get_or stayed i file
+  pub next_line : (stayed : List ℕ) (i file : ℕ) → i < length stayed → file ≡ get_or stayed i 0
       → stayed_lines (map name (drop i stayed)) ≡ stayed_line (name file) ++ stayed_lines (map name (drop (i + 1) stayed))
   next_line stayed i file within is =
-      at_drop_more (λ left. stayed_lines (map name left)) stayed i file within
+      at_drop_more (λ left. stayed_lines (map name left)) stayed i 0 within
       ∙ ap (λ f. stayed_line (name f) ++ stayed_lines (map name (drop (i + 1) stayed))) (sym is)
 
-  pub next_length : (stayed : List ℕ) (i file : ℕ) → i < length stayed → file ≡ get_or stayed i file
+  pub next_length : (stayed : List ℕ) (i file : ℕ) → i < length stayed → file ≡ get_or stayed i 0
       → length (stayed_lines (map name (drop i stayed))) ≡ length (stayed_line (name file)) + length (stayed_lines (map name (drop (i + 1) stayed)))
   next_length stayed i file within is =
       ap length (next_line stayed i file within is) ∙ two_parts (stayed_line (name file)) (stayed_lines (map name (drop (i + 1) stayed)))

@@ -25,14 +25,14 @@ module _ (start now after : Store) (only : OnlyReads start now) where
   file_since file name (Unread.Missing number) (is, cause) = (
     is,
     told_or start.told (λ files. (get files name ≡ None) ⊎ ReadFailed name now after) (λ files. (get files name ≡ None) ⊎ ReadFailed name start after)
-    (ReadFailed name now after) (ReadFailed name start after) (λ files. either_way (failed_since name)) (failed_since name)
-    (subst (λ told. ToldOr told (λ files. (get files name ≡ None) ⊎ ReadFailed name now after) (ReadFailed name now after)) only.told cause),
+        (ReadFailed name now after) (ReadFailed name start after) (λ files. either_way (failed_since name)) (failed_since name)
+        (subst (λ told. ToldOr told (λ files. (get files name ≡ None) ⊎ ReadFailed name now after) (ReadFailed name now after)) only.told cause),
   )
   file_since file name (Unread.TooLong number) (is, cause) = (
     is,
     told_or start.told (λ files. HoldsMore files name module_limit) (λ files. HoldsMore files name module_limit) (ReadFailed name now after) (ReadFailed name start after)
-    (λ files fact. fact) (failed_since name)
-    (subst (λ told. ToldOr told (λ files. HoldsMore files name module_limit) (ReadFailed name now after)) only.told cause),
+        (λ files fact. fact) (failed_since name)
+        (subst (λ told. ToldOr told (λ files. HoldsMore files name module_limit) (ReadFailed name now after)) only.told cause),
   )
   file_since file name Unread.TooLongTogether cause = cause
   file_since file name Unread.Memory cause = cause

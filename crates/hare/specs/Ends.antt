@@ -1,5 +1,5 @@
 -- How a run ends: what each status says of the words, of the script, of the files and of the report.
-use Rattle.std.specs.Prelude.{◌≡◌, ◌≤◌, ◌<◌, ◌+◌, ℕ, Bool, true, false, List, [], ◌∷◌, ◌++◌, length, map, codes, slice_index_or, Some, None, Result, ◌⊎◌}
+use Rattle.std.specs.Prelude.{◌≡◌, ◌≤◌, ◌<◌, ◌+◌, ℕ, Bool, true, false, List, [], ◌++◌, length, map, codes, slice_index_or, Some, None, Result, ◌⊎◌}
 use Rattle.std.specs.Result.{result_unwrap_or}
 use Rattle.hr_shelf.specs.Outside.{HasBytes, Output, Store}
 use Rattle.hr_files.specs.Read.{AreRead, IsUnread, IsUnreadFile}

@@ -1,5 +1,5 @@
 -- What a run sees and changes outside: a shelf and a sink, and what becomes of them.
-use Rattle.std.specs.Prelude.{◌≡◌, ℕ, ◌+◌, ◌*◌, ◌≤◌, ◌<◌, List, length, take}
+use Rattle.std.specs.Prelude.{◌≡◌, ℕ, ◌+◌, ◌≤◌, ◌<◌, List, length, take}
 use Rattle.hr_shelf.specs.Outside.{Store, Output, Rose, appended, AppendsPrefix}
 use Rattle.hr_files.specs.Replaced.{after_changes}
 use Rattle.hr_files.specs.RolledBack.{RollsBack, RoseBy, backs}

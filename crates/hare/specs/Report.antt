@@ -1,5 +1,5 @@
 -- The report of a run, as bytes: a line for each command that ran, then what changed or what went wrong.
-use Rattle.std.specs.Prelude.{ℕ, ◌+◌, true, false, List, [], ◌∷◌, ◌++◌, codes, length, map, Option, unwrap_or}
+use Rattle.std.specs.Prelude.{ℕ, ◌+◌, true, false, List, [], ◌∷◌, ◌++◌, codes, length, Option, unwrap_or}
 use Rattle.std.specs.Fmt.{decimal}
 use Rattle.std.specs.Option.{option_map}
 use Rattle.hr_check.specs.Numbers.{load_number}

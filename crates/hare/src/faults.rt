@@ -67,7 +67,20 @@ fn put_stayed(text: &mut Vec<u8>, files: &[String], stayed: &[usize])
     ensures { text.new.items ≡ text.old.items ++ spec.stayed_lines (map (λ file. slice_index_or (map string_bytes files.now) file []) stayed.now) }
 {
     for index in 0..stayed.len() {
-        put_line(text, NOT_ROLLED_BACK, name_at(files, stayed[index]));
+        put_line(
+            text,
+            NOT_ROLLED_BACK,
+            name_at(files, number_at(stayed, index)),
+        );
+    }
+}
+
+fn number_at(numbers: &[usize], index: usize) -> usize
+    ensures { result ≡ slice_index_or numbers.now index 0 }
+{
+    match numbers.get(index) {
+        Some(number) => *number,
+        None => 0,
     }
 }
 

@@ -9,10 +9,9 @@ ghost use Rattle.hare.specs.Shown.{shown};
 ghost use Rattle.hare.specs.Steps.{IsGivenBack, RunsOut};
 
 use crate::asked::Asked;
-use crate::faults;
-use crate::report;
 use crate::status::Status;
 use crate::telling::tell;
+use crate::{faults, report};
 use hr_base::Text;
 use hr_files::{Change, backs, changes, replace_files, roll_back};
 use hr_shelf::{Shelf, Sink};

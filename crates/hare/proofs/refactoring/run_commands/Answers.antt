@@ -1,4 +1,4 @@
-use Rattle.std.proofs.Common.{◌≤◌, ◌+◌, map, sym, subst, length}
+use Rattle.std.proofs.Common.{◌≤◌, ◌+◌, map, sym, subst}
 use Rattle.std.proofs.lemmas.List.{length-map}
 use Rattle.std.specs.String.{string_bytes}
 use Rattle.hr_files.specs.Read.{AreRead}

@@ -1,4 +1,4 @@
-use Rattle.std.proofs.Common.{◌≡◌, ◌∙◌, ap, refl, subst, sym, true, false, []}
+use Rattle.std.proofs.Common.{◌∙◌, ap, refl, sym, true, false}
 use Rattle.hr_check.specs.Projects.{texts_of}
 use Rattle.hare.specs.Report.{step_lines}
 use Rattle.hare.specs.Shown.{shown}

@@ -1,9 +1,7 @@
-use Rattle.std.proofs.Common.{◌∙◌, ap, inl, inr, refl, subst, sym}
+use Rattle.std.proofs.Common.{◌∙◌, inl, inr, refl, subst}
 use Rattle.std.specs.Prelude.{codes}
-use Rattle.hr_files.specs.declared.reading.Unread.{Unread}
 use Rattle.hr_files.specs.Read.{IsUnreadFile}
 use Rattle.hare.specs.declared.status.Status.{Status}
-use Rattle.hare.specs.Report as report
 use Rattle.hare.specs.Shown.{shown}
 use Rattle.hare.proofs.Ends.{told}
 use Rattle.hare.proofs.Since.{first_missing, first_too_long}

@@ -1,4 +1,4 @@
-use Rattle.std.proofs.Common.{◌∙◌, inl, inr, map, refl, slice_index_or, [], subst}
+use Rattle.std.proofs.Common.{◌∙◌, inl, inr, map, refl, subst}
 use Rattle.std.specs.Prelude.{codes}
 use Rattle.std.specs.String.{string_bytes}
 use Rattle.hr_files.specs.Read.{IsUnread}

@@ -1,5 +1,4 @@
-use Rattle.std.proofs.Common.{◌≡◌, ◌≤◌, ◌<◌, ◌+◌, ◌++◌, ◌∙◌, All, [], ap, arith, false, get_or, length, map, subst, sym, vec_capacity, vec_len}
-use Rattle.std.proofs.lemmas.List.{length-map}
+use Rattle.std.proofs.Common.{◌≡◌, ◌≤◌, ◌+◌, ◌++◌, ◌∙◌, All, [], ap, arith, get_or, length, map, subst, sym, vec_capacity, vec_len}
 use Rattle.std.specs.String.{string_bytes}
 use Rattle.hr_files.specs.Replaced.{IsReadyChange, name_of}
 use Rattle.hr_files.specs.RolledBack.{backs}

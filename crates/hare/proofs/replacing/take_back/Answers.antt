@@ -1,4 +1,4 @@
-use Rattle.std.proofs.Common.{◌≡◌, ◌≤◌, ◌+◌, ◌++◌, ◌∙◌, [], ap, arith, get_or, length, map, subst, sym, take, vec_capacity, vec_len}
+use Rattle.std.proofs.Common.{◌≡◌, ◌≤◌, ◌+◌, ◌++◌, ◌∙◌, [], ap, arith, get_or, length, map, subst, sym, vec_capacity, vec_len}
 use Rattle.std.specs.String.{string_bytes}
 use Rattle.hr_files.specs.RolledBack.{RollsBack}
 use Rattle.hare.specs.Report.{write_fault}
