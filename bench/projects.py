@@ -1,4 +1,4 @@
-"""The projects of `bench/check` and `bench/rename`, and the measure of a run: 10, 50 and 100 modules as the generator makes
+"""The projects of `bench/check`, `bench/rename` and `bench/script`, and the measure of a run: 10, 50 and 100 modules as the generator makes
 them, one module of 1 MiB with its Main, and 200 modules that each import all before them."""
 import os
 import pathlib
@@ -21,8 +21,7 @@ def program():
     return TOP / "crates" / "hare" / "out" / "hare"
 
 
-def words(command, files):
-    return [*command.split(" "), "in", *files]
+SCRIPT = "script"
 
 
 def lines_of(number, size, limit=None):
@@ -91,8 +90,9 @@ def report(command_at, status, said):
             with tempfile.TemporaryDirectory() as folder:
                 for file, text in texts.items():
                     (pathlib.Path(folder) / file).write_text(text)
+                (pathlib.Path(folder) / SCRIPT).write_text(f"{command_at(place)}\n")
                 counts.append(seconds(["wc", *texts], folder, 0)[0])
-                taken, held = seconds([hare, *words(command_at(place), texts)], folder, status, said)
+                taken, held = seconds([hare, SCRIPT, *texts], folder, status, said)
                 times.append(taken)
                 peak = max(peak, held)
         took = min(times)

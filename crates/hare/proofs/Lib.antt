@@ -1,7 +1,8 @@
 pub mod Ends
 pub mod OneTarget
 pub mod OneTree
-pub mod Outcomes
 pub mod PlainSteps
 pub mod Ready
-pub mod Reports
+pub mod Rooms
+pub mod Runs
+pub mod Since

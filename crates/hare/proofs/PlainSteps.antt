@@ -17,9 +17,7 @@ use Rattle.hr_plain.specs.Form.{IsPlain}
 use Rattle.hr_plain.specs.Refusals.{IsLoadRefusal, load_number}
 use Rattle.hr_plain.specs.Renaming.{IsNameAt, IsRenamed, IsWhy, Respelled, number_of, owner_at}
 use Rattle.hr_plain.specs.Scoping.{occurrences_of}
-use Rattle.hare.specs.Ends.{IsMeant}
-use Rattle.hare.specs.Steps.{IsNoPlainStep}
-use Rattle.hare.specs.Words.{Renaming}
+use Rattle.hare.specs.Refactorings.{IsMeant, IsNoPlainStep, Renaming}
 use Rattle.hare.proofs.OneTarget.{one_target}
 use Rattle.hare.proofs.OneTree.{one_tree}
 

@@ -1,7 +1,9 @@
 pub mod Codes
 pub mod Ends
 pub mod Outsides
+pub mod Refactorings
 pub mod Report
+pub mod Rooms
+pub mod Scripts
 pub mod Shown
 pub mod Steps
-pub mod Words

@@ -2,6 +2,7 @@
 use Rattle.std.specs.Prelude.{◌≡◌, ℕ, ◌+◌, ◌≤◌, ◌<◌, List, length, take}
 use Rattle.hr_shelf.specs.Outside.{Store, Output, Rose, appended, AppendsPrefix}
 use Rattle.hr_files.specs.Replaced.{after_changes}
+use Rattle.hr_files.specs.RolledBack.{RollsBack, RoseBy, backs}
 use Rattle.hr_files.specs.declared.replacing.Change.{Change}
 
 pub record Outside : Type 0 where
@@ -11,26 +12,26 @@ pub record Outside : Type 0 where
 abbrev pub outside : Store → Output → Outside
 outside store output = record { store = store; output = output }
 
--- a call for each of so many files at most, a read: no file and no count of replaces changed
-pub record IsKept (files : ℕ) (before after : Store) : Type 0 where
+-- so many calls at most, each a read: no file and no count of replaces changed
+pub record IsKept (reads : ℕ) (before after : Store) : Type 0 where
   pub told : after.told ≡ before.told
   pub replaces : after.replace_faults ≡ before.replace_faults
-  pub calls : after.calls ≤ before.calls + files
+  pub calls : after.calls ≤ before.calls + reads
 
--- a read for each file and a replace for each change at most: the files of the changes have their new bytes, and no
--- replace failed
-pub record IsReplaced (names : List (List ℕ)) (changes : List Change) (before after : Store) : Type 0 where
+-- so many reads and a replace for each change at most: the files of the changes have their new bytes, and no replace failed
+pub record IsReplaced (reads : ℕ) (names : List (List ℕ)) (changes : List Change) (before after : Store) : Type 0 where
   pub told : after.told ≡ after_changes names before.told changes
   pub replaces : after.replace_faults ≡ before.replace_faults
-  pub calls : after.calls ≤ before.calls + (length names + length changes)
+  pub calls : after.calls ≤ before.calls + (reads + length changes)
 
--- a read for each file and a replace for each change at most: a replace failed, the files before it have their new
--- bytes, and the others are as they were
-pub record IsCutOff (names : List (List ℕ)) (changes : List Change) (refused : ℕ) (before after : Store) : Type 0 where
+-- So many reads, a replace for each change, and one back for each at most: the replace of this number failed. The files
+-- before it, which were new, were given their old texts, the last one first, but for those of these numbers, each of which
+-- was refused once more; the others are as they were.
+pub record IsTakenBack (reads : ℕ) (names : List (List ℕ)) (olds : List (List ℕ)) (changes : List Change) (refused : ℕ) (stayed : List ℕ) (before after : Store) : Type 0 where
   pub within : refused < length changes
-  pub told : after.told ≡ after_changes names before.told (take refused changes)
-  pub replaces : Rose before.replace_faults after.replace_faults
-  pub calls : after.calls ≤ before.calls + (length names + length changes)
+  pub told : RollsBack names (after_changes names before.told (take refused changes)) (take refused (backs olds changes)) stayed after.told
+  pub replaces : RoseBy (length stayed + 1) before.replace_faults after.replace_faults
+  pub calls : after.calls ≤ before.calls + (reads + (length changes + length changes))
 
 -- one piece at most: the sink took the report, and no write failed
 pub record IsWritten (report : List ℕ) (before after : Output) : Type 0 where

@@ -1,8 +1,14 @@
--- The renaming that a command borrows from the words.
+-- What is borrowed, as the definitions have it.
 use Rattle.std.specs.Prelude.{map}
 use Rattle.std.specs.String.{string_bytes}
-use Rattle.hare.specs.declared.words.Renaming.{Renaming}
-use Rattle.hare.specs.Words as spec
+use Rattle.hr_words.specs.Words.{Request}
+use Rattle.hare.specs.declared.asked.Asked.{Asked}
+use Rattle.hare.specs.declared.plain.Renaming.{Renaming}
+use Rattle.hare.specs.Refactorings as spec
 
-abbrev pub shown : Renaming → spec.Renaming
-shown r = record { module_name = r.module.now; pos = r.pos; new_name = r.new.now; files = map string_bytes r.files.now }
+-- what the words ask for
+abbrev pub shown : Asked → Request
+shown a = record { script = a.script.now; files = map string_bytes a.files.now; dry_run = a.dry_run; keep_going = a.keep_going }
+
+abbrev pub renaming_of : Renaming → spec.Renaming
+renaming_of r = record { module_name = r.«module».now; pos = r.pos; new_name = r.new.now }

@@ -1,3 +1,4 @@
 pub mod Progress
 pub mod ReadMore
 pub mod ReplaceMore
+pub mod RollMore

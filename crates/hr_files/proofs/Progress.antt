@@ -1,7 +1,7 @@
 -- Files that are read or replaced one after another: what is known behind each.
 use Rattle.std.proofs.Common.{◌≡◌, ◌≤◌, ◌+◌, ℕ, List, length, take, drop, All}
 use Rattle.hr_base.specs.Limits.{module_limit}
-use Rattle.hr_shelf.specs.Outside.{Store}
+use Rattle.hr_shelf.specs.Outside.{StaysReady, Store}
 use Rattle.hr_files.specs.Read.{AreReady, HasTexts, OnlyReads, project_limit, total}
 use Rattle.hr_files.specs.Replaced.{IsReadyChange, after_changes}
 use Rattle.hr_files.specs.declared.replacing.Change.{Change}
@@ -25,6 +25,7 @@ pub record Replacing (names : List (List ℕ)) (changes : List Change) (before n
   pub front : now.told ≡ after_changes names before.told (take done changes)
   pub whole : after_changes names now.told left ≡ after_changes names before.told changes
   pub ready : All (IsReadyChange now.ready names) left
+  pub stays : StaysReady before.ready now.ready
   pub replaces : now.replace_faults ≡ before.replace_faults
   pub reads : now.read_faults ≡ before.read_faults
   pub calls : now.calls ≤ before.calls + done

@@ -46,6 +46,7 @@ replace_more names changes before now after done change rest known told stays re
       ∙ ap (after_changes names before.told) (sym (subst (λ n. take n changes ≡ take done changes ++ change ∷ []) (suc_is done) (front_of done changes change rest known.rest)));
   whole = ap (λ t. after_changes names t rest) told ∙ known.whole;
   ready = ready_rest now.ready after.ready names change rest stays known.ready;
+  stays = λ name is. stays name (known.stays name is);
   replaces = replaces ∙ known.replaces;
   reads = reads ∙ known.reads;
   calls = calls_more before.calls now.calls after.calls done known.calls calls;

@@ -61,7 +61,7 @@ fn keep(texts: &mut Vec<Text>, text: Text) -> Result<(), Unread>
 }
 
 /// The text of the file with the name of that number.
-fn read_file<S: Shelf>(
+pub fn read_file<S: Shelf>(
     alloc: Global,
     shelf: &mut S,
     file: usize,

@@ -1,6 +1,6 @@
 ghost use Rattle.std.specs.Prelude.{◌≡◌, ◌++◌, ◌+◌, ◌<◌, ◌≤◌, All, IfErr, IfOk, OnOk, length, map, slice_get, take};
 ghost use Rattle.std.specs.String.{string_bytes};
-ghost use Rattle.hr_shelf.specs.Outside.{Rose};
+ghost use Rattle.hr_shelf.specs.Outside.{Rose, StaysReady};
 ghost use Rattle.std.specs.Option.{option_copied};
 ghost use Rattle.hr_files.specs.Replaced.{IsReadyChange, after_changes, change_at, changes_from};
 
@@ -66,6 +66,7 @@ pub fn replace_files<S: Shelf>(
     ensures cause { IfErr result (λ refused. Rose (S.store shelf.old).replace_faults (S.store shelf.new).replace_faults) }
     ensures kept { OnOk result ((S.store shelf.new).replace_faults ≡ (S.store shelf.old).replace_faults) }
     ensures reads { (S.store shelf.new).read_faults ≡ (S.store shelf.old).read_faults }
+    ensures stays_ready { StaysReady (S.store shelf.old).ready (S.store shelf.new).ready }
     ensures counted { (S.store shelf.new).calls ≤ (S.store shelf.old).calls + length changes.items }
 {
     let mut done = 0usize;

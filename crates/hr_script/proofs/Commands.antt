@@ -16,9 +16,9 @@ use Rattle.hr_script.specs.declared.command.Command.TheVariants.{Rename, AddPara
 use Rattle.hr_script.specs.declared.command.Verb.{Verb}
 use Rattle.hr_script.specs.declared.command.Verb.TheVariants as verb
 use Rattle.hr_script.specs.Texts.{is_module_name, is_word}
-use Rattle.hr_script.specs.Language.{verb_of, verb_word, pos_word, texts_of, line_of, IsSpot, IsSpeakable, IsCommandLine}
+use Rattle.hr_script.specs.Language.{verb_of, verb_word, pos_word, texts_of, line_of, IsSpot, IsSpeakable, IsCommandLine, is_built}
 use Rattle.hr_script.specs.Numbers.{cut_at, when, number_in, position_in}
-use Rattle.hr_script.specs.Reader.{verbs, has_word, verb_named, spot_of, at_spot, of_two, with_text, of_three, without_words, command_in}
+use Rattle.hr_script.specs.Reader.{verbs, has_word, verb_named, spot_of, at_spot, of_two, with_text, of_three, without_words, command_in, when_built}
 use Rattle.hr_script.proofs.Letters.{both, both_left, both_right, word_lacks, module_lacks}
 use Rattle.hr_script.proofs.Numerals.{when_some, some_same, number_is, number_there, pos_is, pos_there, pos_lacks, decimal_lacks}
 use Rattle.hr_script.proofs.Pieces.{Lacks, cut_again}
@@ -269,16 +269,24 @@ space_blank = refl
 
 -- The two together, for a line.
 
-pub line_is : (line : List ℕ) (c : Command) → command_in (cut_at 32 line) ≡ Some c → IsCommandLine line c
-line_is line c e =
-    let read = command_is (cut_at 32 line) c e in
-    record { line_is = sym (join_with_byte-slice_split 32 line) ∙ ap (join_with_byte 32) read.0; speakable = read.1 }
+built_found : (found : Option Command) (c : Command) → when_built found ≡ Some c → (found ≡ Some c) × (is_built c ≡ true)
+built_found None c e = cc
+built_found (Some d) c e =
+    let passed = when_some (is_built d) (Some d) c e in
+    (passed.1, subst (λ x. is_built x ≡ true) (some_same d c passed.1) passed.0)
 
-pub line_there : (line : List ℕ) (c : Command) → IsCommandLine line c → command_in (cut_at 32 line) ≡ Some c
+pub line_is : (line : List ℕ) (c : Command) → when_built (command_in (cut_at 32 line)) ≡ Some c → IsCommandLine line c
+line_is line c e =
+    let found = built_found (command_in (cut_at 32 line)) c e in
+    let read = command_is (cut_at 32 line) c found.0 in
+    record { line_is = sym (join_with_byte-slice_split 32 line) ∙ ap (join_with_byte 32) read.0; speakable = read.1; built = found.1 }
+
+pub line_there : (line : List ℕ) (c : Command) → IsCommandLine line c → when_built (command_in (cut_at 32 line)) ≡ Some c
 line_there line c is =
-    ap (λ x. command_in (cut_at 32 x)) is.line_is
-    ∙ ap command_in (cut_again 32 (verb_word (verb_of c)) (texts_of c) (words_lack c is.speakable 32 (omega arith) space_blank))
-    ∙ command_there c is.speakable
+    ap (λ x. when_built (command_in (cut_at 32 x))) is.line_is
+    ∙ ap (λ words. when_built (command_in words)) (cut_again 32 (verb_word (verb_of c)) (texts_of c) (words_lack c is.speakable 32 (omega arith) space_blank))
+    ∙ ap when_built (command_there c is.speakable)
+    ∙ let_through (is_built c) (Some c) is.built
 
 pub one_command : (line : List ℕ) (c d : Command) → IsCommandLine line c → IsCommandLine line d → c ≡ d
 one_command line c d is also = some_same c d (sym (line_there line c is) ∙ line_there line d also)

@@ -10,11 +10,11 @@ use Rattle.std.proofs.lemmas.Bool.Decides.{nat_tests}
 use Rattle.hr_rules.specs.Letters.{is_blank, kind_of}
 use Rattle.hr_script.specs.declared.command.Command.{Command}
 use Rattle.hr_script.specs.declared.command.Command.TheVariants.{Rename, AddParameter, RemoveParameter, LiftOne, LiftTop, Demote, Generalise, Move, Abstract, Undo}
-use Rattle.hr_script.specs.Language.{line_of, IsSpeakable, IsCommandLine, is_linefeed, is_skipped, AreLines, Script, IsLine, script_bytes}
+use Rattle.hr_script.specs.Language.{line_of, IsCommandLine, is_linefeed, is_skipped, AreLines, Script, IsLine, script_bytes}
 use Rattle.hr_script.specs.Language.AreLines.{ends, skips, commands}
-use Rattle.hr_script.specs.Laws.{IsFirstBad, IsMemory}
+use Rattle.hr_script.specs.Laws.{IsFirstBad, IsMemory, IsSayable}
 use Rattle.hr_script.specs.Numbers.{cut_at}
-use Rattle.hr_script.specs.Reader.{command_in}
+use Rattle.hr_script.specs.Reader.{command_in, when_built}
 use Rattle.hr_script.specs.declared.error.ScriptError.{ScriptError}
 use Rattle.hr_script.specs.declared.error.ScriptError.TheVariants.{BadLine, TooManySteps, Memory}
 use Rattle.hr_script.specs.Progress.{Progress, Adds, IsLineRefused}
@@ -83,14 +83,14 @@ return_blank : is_blank 13 ≡ true
 unfolding kind_of
 return_blank = refl
 
-pub written_lem : (cs : List Command) → AllByRecursion IsSpeakable cs → Script (script_bytes cs) cs
+pub written_lem : (cs : List Command) → AllByRecursion IsSayable cs → Script (script_bytes cs) cs
 written_lem [] all = ends
 written_lem (c ∷ cs) all =
     let front : lines (line_of c ++ 10 ∷ script_bytes cs) ≡ line_of c ∷ lines (script_bytes cs) =
-    first_line (line_of c) (script_bytes cs) (line_lacks c all.0 10 (omega arith) linefeed_blank)
-    ∙ ap (λ x. x ∷ lines (script_bytes cs)) (no_return (line_of c) (line_lacks c all.0 13 (omega arith) return_blank)) in
+    first_line (line_of c) (script_bytes cs) (line_lacks c all.0.0 10 (omega arith) linefeed_blank)
+    ∙ ap (λ x. x ∷ lines (script_bytes cs)) (no_return (line_of c) (line_lacks c all.0.0 13 (omega arith) return_blank)) in
     subst (λ ls. AreLines ls (c ∷ cs)) (sym front)
-    (commands (line_of c) c (lines (script_bytes cs)) cs (record { line_is = refl; speakable = all.0 }) (written_lem cs all.1))
+    (commands (line_of c) c (lines (script_bytes cs)) cs (record { line_is = refl; speakable = all.0.0; built = all.0.1 }) (written_lem cs all.1))
 
 -- A line is a command or none, and not both.
 
@@ -196,6 +196,6 @@ refused_lem bytes (BadLine number) cs why script =
 refused_lem bytes TooManySteps cs why script = why
 refused_lem bytes (Memory reason) cs why script = tt
 
-pub line_not : (line : List ℕ) (found : Option Command) → is_skipped line ≡ false → found ≡ command_in (cut_at 32 line) → found ≡ None → IsLine line → ⊥
+pub line_not : (line : List ℕ) (found : Option Command) → is_skipped line ≡ false → found ≡ when_built (command_in (cut_at 32 line)) → found ≡ None → IsLine line → ⊥
 line_not line found skipped is none (inl s) = true≢false (sym s ∙ skipped)
 line_not line found skipped is none (inr c) = let e : ◌≡◌ {A = Option Command} (Some c.0) None = sym (line_there line c.0 c.1) ∙ sym is ∙ none in cc

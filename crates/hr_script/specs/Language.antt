@@ -82,10 +82,24 @@ IsSpeakable (Move a n b) = (is_module_name a ≡ true) × ((is_word n ≡ true) 
 IsSpeakable (Abstract m t) = (is_module_name m ≡ true) × (is_word t ≡ true)
 IsSpeakable Undo = Unit {0}
 
--- the line is the command
+-- The commands that are built. Another one isn't of the language until it is.
+abbrev pub is_built : Command → Bool
+is_built (Rename m p n) = true
+is_built (AddParameter m p n) = false
+is_built (RemoveParameter m p i) = false
+is_built (LiftOne m p) = false
+is_built (LiftTop m p) = false
+is_built (Demote m p) = false
+is_built (Generalise m p n) = false
+is_built (Move a n b) = false
+is_built (Abstract m t) = false
+is_built Undo = true
+
+-- the line is the command, which is built
 pub record IsCommandLine (line : List ℕ) (c : Command) : Type 0 where
   pub line_is : line ≡ line_of c
   pub speakable : IsSpeakable c
+  pub built : is_built c ≡ true
 
 abbrev pub is_linefeed : ℕ → Bool
 is_linefeed c = c == 10

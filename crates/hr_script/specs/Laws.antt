@@ -1,11 +1,11 @@
 -- What `parse_script` answers, and laws of the script language.
-use Rattle.std.specs.Prelude.{◌≡◌, ℕ, ◌+◌, ◌≤◌, ◌<◌, List, ◌∷◌, ◌++◌, length}
+use Rattle.std.specs.Prelude.{◌≡◌, ℕ, ◌+◌, ◌≤◌, ◌<◌, true, List, ◌∷◌, ◌++◌, length}
 use Rattle.std.specs.List.{AllByRecursion}
 use Rattle.std.specs.Str.Lines.{lines}
 use Rattle.hr_script.specs.declared.command.Command.{Command}
 use Rattle.hr_script.specs.declared.error.ScriptError.{ScriptError}
 use Rattle.hr_script.specs.declared.error.ScriptError.TheVariants.{BadLine, TooManySteps, Memory}
-use Rattle.hr_script.specs.Language.{Script, IsLine, IsSpeakable, script_bytes}
+use Rattle.hr_script.specs.Language.{Script, IsLine, IsSpeakable, is_built, script_bytes}
 
 -- as many commands as a script may have
 abbrev pub step_limit : ℕ
@@ -41,6 +41,10 @@ IsMemory (Memory reason) = Unit {0}
 abbrev pub OneScript : Type 0
 OneScript = (bytes : List ℕ) (cs ds : List Command) → Script bytes cs → Script bytes ds → cs ≡ ds
 
--- what is written of commands whose texts are of the language is a script of them
+-- the command is of the language
+abbrev pub IsSayable : Command → Type 0
+IsSayable c = IsSpeakable c × (is_built c ≡ true)
+
+-- what is written of commands of the language is a script of them
 abbrev pub WrittenParsesBack : Type 0
-WrittenParsesBack = (cs : List Command) → AllByRecursion IsSpeakable cs → Script (script_bytes cs) cs
+WrittenParsesBack = (cs : List Command) → AllByRecursion IsSayable cs → Script (script_bytes cs) cs

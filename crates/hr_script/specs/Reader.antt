@@ -9,7 +9,7 @@ use Rattle.hr_script.specs.declared.command.Command.TheVariants.{Rename, AddPara
 use Rattle.hr_script.specs.declared.command.Verb.{Verb}
 use Rattle.hr_script.specs.declared.command.Verb.TheVariants as verb
 use Rattle.hr_script.specs.Texts.{is_module_name, is_word}
-use Rattle.hr_script.specs.Language.{verb_word}
+use Rattle.hr_script.specs.Language.{is_built, verb_word}
 use Rattle.hr_script.specs.Numbers.{when, number_in, position_in}
 
 abbrev pub verbs : List Verb
@@ -57,3 +57,8 @@ command_in (v ∷ []) = without_words (verb_named v)
 command_in (v ∷ m ∷ t ∷ []) = of_two (verb_named v) m t
 command_in (v ∷ m ∷ t ∷ n ∷ []) = of_three (verb_named v) m t n
 command_in _ = None
+
+-- a command that is built
+abbrev pub when_built : Option Command → Option Command
+when_built None = None
+when_built (Some c) = when (is_built c) (Some c)

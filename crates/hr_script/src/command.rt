@@ -2,7 +2,7 @@
 ghost use Rattle.std.specs.Prelude.{◌≡◌};
 ghost use Rattle.std.specs.Option.{option_copied};
 ghost use Rattle.std.specs.List.{find};
-ghost use Rattle.hr_script.specs.Language.{verb_of, verb_word};
+ghost use Rattle.hr_script.specs.Language.{is_built, verb_of, verb_word};
 ghost use Rattle.hr_script.specs.Reader as reader;
 
 use hr_base::{Pos, Text};
@@ -53,6 +53,24 @@ impl Command {
             Command::Move { .. } => Verb::Move,
             Command::Abstract { .. } => Verb::Abstract,
             Command::Undo => Verb::Undo,
+        }
+    }
+
+    /// Whether the command is built; another one is not of the language.
+    pub fn is_built(&self) -> bool
+        ensures { result ≡ is_built self.now }
+    {
+        match self {
+            Command::Rename { .. } => true,
+            Command::AddParameter { .. } => false,
+            Command::RemoveParameter { .. } => false,
+            Command::LiftOne { .. } => false,
+            Command::LiftTop { .. } => false,
+            Command::Demote { .. } => false,
+            Command::Generalise { .. } => false,
+            Command::Move { .. } => false,
+            Command::Abstract { .. } => false,
+            Command::Undo => true,
         }
     }
 }

@@ -10,12 +10,22 @@ use crate::{Command, Verb};
 use hr_base::{Pos, Text};
 use std::alloc::{AllocError, Global};
 
-/// The command that the line is, if it is one.
+/// The command that the line is, if it is one that is built.
 pub(crate) fn command_of(alloc: Global, line: &[u8]) -> Result<Option<Command>, AllocError>
-    ensures { IfOk result (λ found. found ≡ reader.command_in (cut_at 32 line.now)) }
+    ensures { IfOk result (λ found. found ≡ reader.when_built (reader.command_in (cut_at 32 line.now))) }
 {
     let words = pieces(alloc, line, b' ')?;
-    command_in(alloc, words.as_slice())
+    Ok(when_built(command_in(alloc, words.as_slice())?))
+}
+
+/// The command, if it is built.
+fn when_built(command: Option<Command>) -> Option<Command>
+    ensures { result ≡ reader.when_built command }
+{
+    match command {
+        Some(command) if command.is_built() => Some(command),
+        _ => None,
+    }
 }
 
 /// The command that the words are.

@@ -1,4 +1,4 @@
-use Rattle.std.proofs.Common.{◌∙◌, rules, refl}
+use Rattle.std.proofs.Common.{◌∙◌, refl, rules}
 use Rattle.hare.specs.declared.status.Status.{Status}
 use Rattle.hare.proofs.Ends.{told}
 use Rattle.hare.proofs.refactoring.run.Goals as goal

@@ -1,0 +1,3 @@
+module A where
+f x = x + 1
+g x = f x

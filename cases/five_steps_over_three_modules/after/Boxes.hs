@@ -1,0 +1,4 @@
+module Boxes (content) where
+import Shapes
+
+content w h d = surface w h * d

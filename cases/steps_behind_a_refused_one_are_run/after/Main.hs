@@ -1,0 +1,2 @@
+f z = \y -> z
+main s = show (f 1 2)

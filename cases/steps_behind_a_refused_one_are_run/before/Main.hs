@@ -1,0 +1,2 @@
+f x = \y -> x
+main s = show (f 1 2)

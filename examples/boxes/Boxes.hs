@@ -1,0 +1,4 @@
+module Boxes (volume) where
+import Shapes
+
+volume w h d = area w h * d
