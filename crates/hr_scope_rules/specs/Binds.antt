@@ -10,7 +10,7 @@ use Rattle.hr_scope_rules.specs.declared.role.Role.{Role}
 use Rattle.hr_scope_rules.specs.Names.{name_of}
 use Rattle.hr_scope_rules.specs.Regions.{Region, Placed, lexemes}
 use Rattle.hr_scope_rules.specs.Modules.{module_name, own_entities, entity_of, IsPart, IsNamed}
-use Rattle.hr_scope_rules.specs.Exports.{Exports, InScope, StandsFor}
+use Rattle.hr_scope_rules.specs.Exports.{Exports, InScope, Scope, StandsFor}
 
 -- the lexeme of that number declares the spelling in the region that has these regions round what stands in it
 pub record DeclaresIn (marks : List Placed) (regions : List Region) (space : Space) (text : List ℕ) (number : ℕ) : Type 0 where
@@ -33,20 +33,27 @@ DeclaredThere tree number [] space text binder = (binder ≡ Binder.Global (enti
 DeclaredThere tree number (region ∷ outer) space text binder =
     (item : ℕ) × DeclaresIn (lexemes tree) (region ∷ outer) space text item × (binder ≡ Binder.Local (record { «module» = number; item = item }))
 
--- a binder that is in scope in the module under the name
-abbrev pub Global : (modules : List Module) → ℕ → Space → Name → Binder → Type 0
-Global modules number space name binder = (entity : Entity) × StandsFor (InScope modules number) space name entity × (binder ≡ Binder.Global entity)
+-- a binder that is in a scope under the name
+abbrev pub GlobalIn : Scope → Space → Name → Binder → Type 0
+GlobalIn Scoped space name binder = (entity : Entity) × StandsFor Scoped space name entity × (binder ≡ Binder.Global entity)
 
--- a name that is used: a local one where a region round it declares it
-abbrev pub Used : (modules : List Module) → ℕ → Module → List Region → Space → Name → Binder → Type 0
-Used modules number tree regions space name binder = by name.qualifier where
+abbrev pub Global : (modules : List Module) → ℕ → Space → Name → Binder → Type 0
+Global modules number = GlobalIn (InScope modules number)
+
+-- a name that is used in the module of that number, given what is in scope in it: a local one where a region round it
+-- declares it
+abbrev pub UsedIn : Scope → ℕ → Module → List Region → Space → Name → Binder → Type 0
+UsedIn Scoped number tree regions space name binder = by name.qualifier where
   found : List Region → Type 0
-  found [] = Global modules number space name binder
+  found [] = GlobalIn Scoped space name binder
   found (region ∷ outer) = DeclaredThere tree number (region ∷ outer) space name.text binder
 
   by : Option (List ℕ) → Type 0
-  by (Some qualifier) = Global modules number space name binder
+  by (Some qualifier) = GlobalIn Scoped space name binder
   by None = (where_found : List Region) × Innermost (lexemes tree) space name.text regions where_found × found where_found
+
+abbrev pub Used : (modules : List Module) → ℕ → Module → List Region → Space → Name → Binder → Type 0
+Used modules number = UsedIn (InScope modules number) number
 
 -- the lexeme of that number is spelled so
 abbrev pub IsSpelled : Module → ℕ → Name → Type 0
