@@ -6,6 +6,7 @@ use Rattle.hr_graph.specs.declared.module_order.GraphError.{GraphError}
 use Rattle.hr_exports.specs.declared.error.ExportError.{ExportError}
 use Rattle.hr_scope.specs.declared.error.ScopeError.{ScopeError}
 use Rattle.hr_fixity.specs.declared.error.FixityError.{FixityError}
+use Rattle.hr_typing.specs.Numbers.{typing_number}
 use Rattle.hr_check.specs.declared.error.LoadError.{LoadError}
 
 -- a lexeme with which no tree goes on, a tree that nests too deep, a construct that is left out
@@ -48,4 +49,5 @@ load_number (LoadError.Graph error) = graph_number error
 load_number (LoadError.Exports error) = export_number error
 load_number (LoadError.Scope error) = scope_number error
 load_number (LoadError.Fixity error) = fixity_number error
+load_number (LoadError.Types error) = typing_number error
 load_number (LoadError.Memory error) = None

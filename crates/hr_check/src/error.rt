@@ -7,6 +7,7 @@ use hr_graph::GraphError;
 use hr_lexer::LexError;
 use hr_parse::ParseError;
 use hr_scope::ScopeError;
+use hr_typing::TypingError;
 use std::alloc::AllocError;
 use thiserror::Error;
 
@@ -25,6 +26,8 @@ pub enum LoadError {
     Scope(ScopeError),
     #[error(transparent)]
     Fixity(FixityError),
+    #[error(transparent)]
+    Types(TypingError),
     /// There was no memory, for whichever layer.
     #[error(transparent)]
     Memory(AllocError),
@@ -46,6 +49,7 @@ impl Drop for LoadError {
             LoadError::Exports(error) => drop(error),
             LoadError::Scope(error) => drop(error),
             LoadError::Fixity(error) => drop(error),
+            LoadError::Types(error) => drop(error),
             LoadError::Memory(error) => drop(error),
         }
     }
@@ -100,6 +104,13 @@ impl LoadError {
         }
     }
 
+    pub(crate) fn typing(error: TypingError) -> LoadError {
+        match error.number() {
+            Some(_) => LoadError::Types(error),
+            None => LoadError::Memory(AllocError),
+        }
+    }
+
     /// The number by which the refusal is shown; none for want of memory.
     pub fn number(&self) -> Option<u32>
         ensures { result ≡ spec.load_number self.now }
@@ -111,6 +122,7 @@ impl LoadError {
             LoadError::Exports(error) => export_number(error),
             LoadError::Scope(error) => scope_number(error),
             LoadError::Fixity(error) => fixity_number(error),
+            LoadError::Types(error) => error.number(),
             LoadError::Memory(_) => None,
         }
     }

@@ -1,4 +1,5 @@
-//! Projects: texts that are read, whose names are bound and whose infix sequences are resolved.
+//! Projects: texts that are read, whose names are bound, whose infix sequences are resolved, and which have
+//! types.
 #![tactic(auto)]
 
 mod checking;

@@ -2,8 +2,10 @@ ghost use Rattle.std.specs.Prelude.{◌≡◌};
 ghost use Rattle.hr_check.specs.Projects.{bindings_of, modules_of, texts_of};
 
 use hr_base::Text;
+use hr_infer::Typing;
 use hr_tables::{Bindings, Interfaces};
 use hr_tree::Module;
+use hr_tydecl::Declared;
 
 /// A project that was checked. Its modules are those of the texts in their order, and then Prelude and Char.
 #[derive(Drop)]
@@ -12,6 +14,8 @@ pub struct Project {
     pub(crate) trees: Vec<Module>,
     pub(crate) interfaces: Interfaces,
     pub(crate) bindings: Bindings,
+    pub(crate) declared: Declared,
+    pub(crate) typing: Typing,
 }
 
 impl Project {
@@ -39,5 +43,15 @@ impl Project {
         ensures { result.now.modules ≡ bindings_of self.now }
     {
         &self.bindings
+    }
+
+    /// What the modules declare of types.
+    pub fn declared(&self) -> &Declared {
+        &self.declared
+    }
+
+    /// The types of all values and constructors.
+    pub fn typing(&self) -> &Typing {
+        &self.typing
     }
 }

@@ -25,8 +25,8 @@ pub struct Step {
 
 /// Applies the edits, writes the target, checks it from nothing and compares. The map has the top-level things that
 /// have another in their place. Refused where the target is past a limit (57), a name would be bound otherwise than
-/// meant (36), a region would declare a spelling twice (37) or a module export two things of one spelling (38), the
-/// first of these. A target that isn't read as it was meant writes nothing: it is answered by want of memory.
+/// meant (36), a region would declare a spelling twice (37), a module export two things of one spelling (38), or the
+/// target have no types (39), the first of these. A target that isn't read as it was meant writes nothing: it is answered by want of memory.
 pub fn finish(alloc: Global, old: &Project, edits: &[Edit], map: NameMap) -> Result<Step, Why>
     ensures done { IfOk result (IsFinished old.now) }
     ensures read { IfOk result (λ step. AreTextsOf (texts_of step.project) (modules_of step.project)) }

@@ -13,11 +13,13 @@ use hr_check::{LoadError, Project, edges, names, read_all};
 use hr_draft::Draft;
 use hr_exports::tables;
 use hr_graph::order;
+use hr_infer::TypeError;
 use hr_parse::ParseError;
 use hr_scope::{ScopeError, bind};
 use hr_step::{Found, NameMap, first_rebound};
 use hr_tables::{Bindings, Interfaces};
 use hr_tree::{Module, at};
+use hr_typing::TypingError;
 use hr_why::Why;
 use std::alloc::{AllocError, Global};
 
@@ -46,7 +48,43 @@ pub fn why_refused(alloc: Global, trial: Trial, texts: &[Text], error: &LoadErro
                 Err(error) => Why::Memory(error),
             }
         }
+        LoadError::Types(error) => match judged(alloc, trial, texts) {
+            Ok(Some(why)) => why,
+            Ok(None) => without_types(alloc, error),
+            Err(error) => Why::Memory(error),
+        },
         _ => Why::Memory(AllocError),
+    }
+}
+
+/// The refusal of a target that is as it was meant, but has no types.
+fn without_types(alloc: Global, error: &TypingError) -> Why
+    ensures { IsEnding result }
+{
+    match untyped(alloc, error) {
+        Ok(Some((module, group))) => Why::WouldNotType { module, group },
+        Ok(None) => Why::Memory(AllocError),
+        Err(error) => Why::Memory(error),
+    }
+}
+
+/// The module and the group that have no types: of a signature that is too general its name, and `main` where that alone
+/// is lacking. A step changes no declaration of a type, so what these are refused for is not its own.
+fn untyped(alloc: Global, error: &TypingError) -> Result<Option<(Text, Text)>, AllocError> {
+    let TypingError::Defined(error) = error else {
+        return Ok(None);
+    };
+    match error {
+        TypeError::IllTyped { module, group } => Ok(Some((module.clone()?, group.clone()?))),
+        TypeError::SignatureTooGeneral { place, name } => {
+            Ok(Some((place.module.clone()?, name.clone()?)))
+        }
+        TypeError::NoMain => {
+            let module = Text::from_slice(alloc, b"Main")?;
+            let group = Text::from_slice(alloc, b"main")?;
+            Ok(Some((module, group)))
+        }
+        TypeError::Memory(_) => Ok(None),
     }
 }
 

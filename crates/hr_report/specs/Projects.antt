@@ -10,6 +10,9 @@ use Rattle.hr_graph.specs.declared.module_order.GraphError.{GraphError}
 use Rattle.hr_exports.specs.declared.error.ExportError.{ExportError}
 use Rattle.hr_scope.specs.declared.error.ScopeError.{ScopeError}
 use Rattle.hr_fixity.specs.declared.error.FixityError.{FixityError}
+use Rattle.hr_tydecl.specs.declared.declared.DeclError.{DeclError}
+use Rattle.hr_infer.specs.declared.error.TypeError.{TypeError}
+use Rattle.hr_typing.specs.declared.error.TypingError.{TypingError}
 use Rattle.hr_check.specs.declared.error.LoadError.{LoadError}
 use Rattle.hr_report.specs.Places.{at, place_text, entity_text}
 
@@ -49,6 +52,23 @@ abbrev pub fixity_fields : FixityError → List (List ℕ)
 fixity_fields (FixityError.FixityConflict left right) = place_text left ∷ place_text right ∷ []
 fixity_fields (FixityError.Memory error) = []
 
+abbrev pub declared_fields : DeclError → List (List ℕ)
+declared_fields (DeclError.SynonymCycle name) = name ∷ []
+declared_fields (DeclError.WrongArity place) = place_text place ∷ []
+declared_fields (DeclError.UnboundTypeVariable place) = place_text place ∷ []
+declared_fields (DeclError.Memory error) = []
+
+abbrev pub defined_fields : TypeError → List (List ℕ)
+defined_fields (TypeError.IllTyped module_name group) = module_name ∷ group ∷ []
+defined_fields (TypeError.SignatureTooGeneral place name) = place_text place ∷ name ∷ []
+defined_fields TypeError.NoMain = []
+defined_fields (TypeError.Memory error) = []
+
+abbrev pub typing_fields : TypingError → List (List ℕ)
+typing_fields (TypingError.Declared error) = declared_fields error
+typing_fields (TypingError.Defined error) = defined_fields error
+typing_fields (TypingError.Memory error) = []
+
 -- the fields of a refusal, where the texts have these names of files
 abbrev pub load_fields : List (List ℕ) → LoadError → List (List ℕ)
 load_fields files (LoadError.Lex text error) = lex_fields (slice_index_or files text []) error
@@ -57,6 +77,7 @@ load_fields files (LoadError.Graph error) = graph_fields error
 load_fields files (LoadError.Exports error) = export_fields error
 load_fields files (LoadError.Scope error) = scope_fields error
 load_fields files (LoadError.Fixity error) = fixity_fields error
+load_fields files (LoadError.Types error) = typing_fields error
 load_fields files (LoadError.Memory error) = []
 
 -- the number and the fields, with blanks (32) between

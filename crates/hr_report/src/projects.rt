@@ -10,9 +10,12 @@ use hr_check::LoadError;
 use hr_exports::ExportError;
 use hr_fixity::FixityError;
 use hr_graph::GraphError;
+use hr_infer::TypeError;
 use hr_lexer::LexError;
 use hr_parse_lexeme::ParseError;
 use hr_scope::ScopeError;
+use hr_tydecl::DeclError;
+use hr_typing::TypingError;
 use std::alloc::{AllocError, Global};
 
 /// The number of a refusal and its fields, where the texts have these names of files.
@@ -50,6 +53,7 @@ fn add_load(
         LoadError::Exports(error) => add_export(alloc, bytes, number, error),
         LoadError::Scope(error) => add_scope(alloc, bytes, number, error),
         LoadError::Fixity(error) => add_fixity(alloc, bytes, number, error),
+        LoadError::Types(error) => add_typing(alloc, bytes, number, error),
         LoadError::Memory(_) => add_fields(bytes, number, &[]),
     }
 }
@@ -214,5 +218,63 @@ fn add_fixity(
             add_fields(bytes, number, &[left.as_slice(), right.as_slice()])
         }
         FixityError::Memory(_) => add_fields(bytes, number, &[]),
+    }
+}
+
+fn add_typing(
+    alloc: Global,
+    bytes: &mut Vec<u8>,
+    number: &[u8],
+    error: &TypingError,
+) -> Result<(), AllocError>
+    ensures { OnOk result (bytes.new.items ≡ bytes.old.items ++ join_with_byte 32 (number.now ∷ spec.typing_fields error.now)) }
+{
+    match error {
+        TypingError::Declared(error) => add_declared(alloc, bytes, number, error),
+        TypingError::Defined(error) => add_defined(alloc, bytes, number, error),
+        TypingError::Memory(_) => add_fields(bytes, number, &[]),
+    }
+}
+
+fn add_declared(
+    alloc: Global,
+    bytes: &mut Vec<u8>,
+    number: &[u8],
+    error: &DeclError,
+) -> Result<(), AllocError>
+    ensures { OnOk result (bytes.new.items ≡ bytes.old.items ++ join_with_byte 32 (number.now ∷ spec.declared_fields error.now)) }
+{
+    match error {
+        DeclError::SynonymCycle { name } => add_fields(bytes, number, &[name.as_slice()]),
+        DeclError::WrongArity { place } => {
+            let place = place_text(alloc, place)?;
+            add_fields(bytes, number, &[place.as_slice()])
+        }
+        DeclError::UnboundTypeVariable { place } => {
+            let place = place_text(alloc, place)?;
+            add_fields(bytes, number, &[place.as_slice()])
+        }
+        DeclError::Memory(_) => add_fields(bytes, number, &[]),
+    }
+}
+
+fn add_defined(
+    alloc: Global,
+    bytes: &mut Vec<u8>,
+    number: &[u8],
+    error: &TypeError,
+) -> Result<(), AllocError>
+    ensures { OnOk result (bytes.new.items ≡ bytes.old.items ++ join_with_byte 32 (number.now ∷ spec.defined_fields error.now)) }
+{
+    match error {
+        TypeError::IllTyped { module, group } => {
+            add_fields(bytes, number, &[module.as_slice(), group.as_slice()])
+        }
+        TypeError::SignatureTooGeneral { place, name } => {
+            let place = place_text(alloc, place)?;
+            add_fields(bytes, number, &[place.as_slice(), name.as_slice()])
+        }
+        TypeError::NoMain => add_fields(bytes, number, &[]),
+        TypeError::Memory(_) => add_fields(bytes, number, &[]),
     }
 }
