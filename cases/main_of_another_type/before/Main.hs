@@ -1,0 +1,2 @@
+f x = x
+main s = 1

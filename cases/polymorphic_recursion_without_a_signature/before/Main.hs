@@ -1,0 +1,3 @@
+d 0 x = 0
+d n x = d (n - 1) [x]
+main s = s

@@ -1,0 +1,3 @@
+f :: a -> b
+f x = x
+main s = s

@@ -1,0 +1,4 @@
+type A = B
+type B = A
+f x = x
+main s = s

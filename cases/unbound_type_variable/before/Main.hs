@@ -1,0 +1,3 @@
+data T a = C a b
+f x = x
+main s = s

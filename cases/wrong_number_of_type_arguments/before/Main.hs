@@ -1,0 +1,3 @@
+f :: Maybe -> Int
+f x = 1
+main s = s
