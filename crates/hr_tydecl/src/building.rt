@@ -1,8 +1,8 @@
 //! Types from their written parts, with synonyms expanded.
-use hr_instances::{DECLARED_LIMIT, TYPE_LIMIT, list_entity, replaced, tuple_entity};
 use crate::checking::Numbers;
 use crate::known::{Types, entity_at, known_at};
 use hr_base::{Binder, Text};
+use hr_instances::{DECLARED_LIMIT, TYPE_LIMIT, list_entity, replaced, tuple_entity};
 use hr_items::{Boxed, Items};
 use hr_type::{Mono, Scheme, size_of_type};
 use hr_typing_walk::{Head, TypeMark};

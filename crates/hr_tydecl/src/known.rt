@@ -1,6 +1,6 @@
 //! The types that a project has, by their entities.
-use hr_instances::prelude_type;
 use hr_base::{Binder, Entity};
+use hr_instances::prelude_type;
 use hr_typing_code::ModuleRules;
 use hr_typing_walk::Written;
 use indexmap::IndexMap;

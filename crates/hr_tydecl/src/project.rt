@@ -3,7 +3,7 @@ use crate::checking::{Context, Fault, fault_of, name_text};
 use crate::constructors::put_declared;
 use crate::cycles::{Order, synonym_order};
 use crate::declared::{DeclError, Declared};
-use crate::known::{Stated, Types, entries_of, entity_at, types_of};
+use crate::known::{Stated, Types, entity_at, entries_of, types_of};
 use crate::shown::place_at;
 use crate::synonyms::{bound_of, expand_all};
 use hr_base::{Binder, Entity, Seq, Text};

@@ -18,8 +18,9 @@ pub fn type_modules(
     graded: &[Seq<Graded>],
 ) -> Result<(Declared, Typing), TypingError> {
     let rules = all_rules(alloc, modules, bindings)?;
-    let declared = declarations(alloc, modules, rules.as_slice(), bindings)
-        .map_err(TypingError::Declared)?;
+    let declared = declarations(alloc, modules, rules.as_slice(), bindings).map_err(
+        TypingError::Declared,
+    )?;
     let resolved = Resolved {
         modules,
         order,
