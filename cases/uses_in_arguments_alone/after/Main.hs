@@ -1,4 +1,4 @@
 two a = 1
 k = g (two 2) two
-g a b = a b
+g a b = b a
 main s = s

@@ -1,4 +1,4 @@
 f a = 1
 k = g (f 2) f
-g a b = a b
+g a b = b a
 main s = s

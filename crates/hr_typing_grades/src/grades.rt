@@ -37,15 +37,16 @@ impl<'a> Grades<'a> {
         module: &Module,
         trees: &'a [Graded],
     ) -> Result<Grades<'a>, AllocError> {
-        let mut grades = Grades {
-            sequences: sequences_of(alloc, module)?,
-            trees,
-            starts: IndexMap::new(alloc),
-        };
-        for (number, sequence) in grades.sequences.as_slice().iter().enumerate() {
-            put_starts(number, sequence, &mut grades.starts)?;
+        let sequences = sequences_of(alloc, module)?;
+        let mut starts = IndexMap::new(alloc);
+        for (number, sequence) in sequences.as_slice().iter().enumerate() {
+            put_starts(number, sequence, &mut starts)?;
         }
-        Ok(grades)
+        Ok(Grades {
+            sequences,
+            trees,
+            starts,
+        })
     }
 
     /// The steps of the operands whose first operator is that lexeme, or that have it as a minus before.
