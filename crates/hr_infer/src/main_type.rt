@@ -14,7 +14,7 @@ use std::alloc::{AllocError, Global};
 
 /// Whether the types have `main` of `Main`, and it can be a function from text to text.
 pub fn has_main(alloc: Global, schemes: &IndexMap<Entity, Scheme>) -> Result<bool, AllocError>
-    ensures { IfOk result (λ yes. IsTrue yes → (scheme : Scheme) × (get Entity.eq schemes.now spec.main_entity ≡ Some scheme) × IsInstance scheme spec.main_type) }
+    ensures { IfOk result (λ yes. IsTrue yes → (scheme : Scheme) × (get ⟦<Entity as PartialEq>⟧.eq schemes.now spec.main_entity ≡ Some scheme) × IsInstance scheme spec.main_type) }
 {
     let main = main_entity(alloc)?;
     match schemes.get(&main) {

@@ -46,7 +46,7 @@ struct Part<'a> {
 
 /// The types of all values and constructors of the modules.
 pub fn infer(alloc: Global, resolved: Resolved, declared: &Declared) -> Result<Typing, TypeError>
-    ensures main { IfOk result (λ typing. (scheme : Scheme) × (get Entity.eq typing.schemes main_entity ≡ Some scheme) × IsInstance scheme main_type) }
+    ensures main { IfOk result (λ typing. (scheme : Scheme) × (get ⟦<Entity as PartialEq>⟧.eq typing.schemes main_entity ≡ Some scheme) × IsInstance scheme main_type) }
 {
     let mut project = Project::new(alloc, resolved, declared)?;
     for number in resolved.order {

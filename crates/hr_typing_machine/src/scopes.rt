@@ -211,23 +211,28 @@ impl Machine<'_> {
         scope: &Scope,
         bound: &IndexSet<u32>,
     ) -> Result<bool, Halt> {
-        let found = self.found(variable, scope, bound)?;
+        let root = Mono::Var(variable);
+        let found = self.found(&root, scope, bound)?;
         for other in found.free.as_slice() {
             add_variable(&mut self.general, *other)?;
         }
         Ok(found.has_fixed || !found.free.is_empty())
     }
 
-    /// What a variable's type has inside, what new variables stand for as well.
-    fn found(&self, variable: u32, scope: &Scope, bound: &IndexSet<u32>) -> Result<Found, Halt> {
+    /// What a type has inside, what new variables stand for as well.
+    fn found<'b>(
+        &'b self,
+        root: &'b Mono,
+        scope: &Scope,
+        bound: &IndexSet<u32>,
+    ) -> Result<Found, Halt> {
         let mut seen = IndexSet::new(self.alloc);
         let mut found = Found {
             free: Vec::new(self.alloc),
             has_fixed: false,
         };
-        let root = Mono::Var(variable);
         let mut left = Vec::new(self.alloc);
-        left.push(&root).map_err(|_| Halt::Memory(AllocError))?;
+        left.push(root).map_err(|_| Halt::Memory(AllocError))?;
         for _ in 0..u64::MAX {
             let Some(next) = left.pop() else {
                 return Ok(found);
